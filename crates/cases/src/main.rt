@@ -1,0 +1,6 @@
+// Runs the cases of document 01 that are not starred, and prints what came.
+mod office;
+
+fn main() {
+    office::cases();
+}

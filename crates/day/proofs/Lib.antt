@@ -1,0 +1,4 @@
+pub mod Sounding
+pub mod Copying
+pub mod Saying
+pub mod Judging

@@ -1,0 +1,3 @@
+-- Laws of the promises.
+pub mod Unique
+pub mod Exists

@@ -1,0 +1,9 @@
+-- Laws of the definitions.
+pub mod Single
+pub mod Order
+pub mod Good
+pub mod Joined
+pub mod Checks
+pub mod Decided
+pub mod Rows
+pub mod Isolated
