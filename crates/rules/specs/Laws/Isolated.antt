@@ -61,10 +61,18 @@ own-again asker (r ∷ rs) = go (sees asker r) refl (own-again asker rs)
     go true e h = rw (e, h)
     go false e h = h
 
+-- the asker's rows of the struck-out list are the asker's rows
+pub own-of-struck : (asker : ℕ) (list : List ℕ) → own asker (rowsOf (struck asker list)) ≡ own asker (rowsOf list)
+own-of-struck asker list = rw (rows-of-numbers (own asker (rowsOf list))) (own-again asker (rowsOf list))
+
 pub same-to-struck : (asker : ℕ) (list : List ℕ) → Fit list → SameToAsker asker list (struck asker list)
 same-to-struck asker list f =
     record {
       fit = f;
-      other-fit = record { whole = numbers-whole (own asker (rowsOf list)); few = rw (rows-of-numbers (own asker (rowsOf list))) (omega (arith, own-shorter asker (rowsOf list))) };
-      same-rows = rw (rows-of-numbers (own asker (rowsOf list))) (sym (own-again asker (rowsOf list)));
+      other-fit =
+          record {
+            whole = numbers-whole (own asker (rowsOf list));
+            few = rw (rows-of-numbers (own asker (rowsOf list))) (omega (arith, own-shorter asker (rowsOf list)));
+          };
+      same-rows = sym (own-of-struck asker list);
     }

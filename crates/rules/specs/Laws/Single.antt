@@ -11,7 +11,7 @@ use lib.ListN.{length, getD}
 use lib.Seq.{ext-getD}
 use Rattle.rules.specs.Words.{Least, Greatest, GreatestIfAny}
 use Rattle.rules.specs.Clock.{horizon}
-use Rattle.rules.specs.Day.{Day, Ask}
+use Rattle.rules.specs.Day.{Row, Faulty, Day, Ask}
 use Rattle.rules.specs.Routes.{Dist, unreached, after, Compatible, Distance, itself, reached, no-route, Earliest, inNumbers}
 use Rattle.rules.specs.Eccentricity.{Backward}
 use Rattle.rules.specs.Diameter.{Before, bound-falls, number-rises, Sorted, sorted-none, sorted-more, Targets, counted, Visits, at-end, stop, visit, First, here, further, Shown, NoneShown}
@@ -21,6 +21,10 @@ use Rattle.rules.specs.Figures.{TableOf}
 
 pub least-single : {P : ℕ → Type 0} {x y : ℕ} → Least P x → Least P y → x ≡ y
 least-single {x = x} {y = y} h k = omega (arith, h .least y (k .holds), k .least x (h .holds))
+
+-- the first faulty row is one
+pub first-fault-single : {n : ℕ} {rs : List Row} {i j : ℕ} → Least (Faulty n rs) i → Least (Faulty n rs) j → i ≡ j
+first-fault-single = least-single
 
 pub greatest-single : {P : ℕ → Type 0} {x y : ℕ} → Greatest P x → Greatest P y → x ≡ y
 greatest-single {x = x} {y = y} h k = omega (arith, h .greatest y (k .holds), k .greatest x (h .holds))
