@@ -1,0 +1,4 @@
+pub mod Chains
+pub mod Legs
+pub mod Forward
+pub mod Distance

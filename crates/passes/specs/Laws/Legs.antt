@@ -1,0 +1,166 @@
+-- Legs have the routes of the rows that they come from, and so the same distances.
+use Prim.Native.Nat.{ℕ, _+_, _-_, _≤_, _<_}
+use mathlib.Core.Path.{_≡_, refl, ap, sym, _∙_, subst}
+use mathlib.Core.Logic.{_≢_}
+use mathlib.Core.Bool.{Bool, true, false, cond, _&&_}
+use mathlib.Core.List.{List, [], _∷_, List·Memᴰ, List·Memᴰ·head, List·Memᴰ·tail, List·Memᴰ·not-nil}
+use native.Mathlib.Omega.{arith}
+use lib.Dec.{leb}
+use borrow.Author.Tests.{leb-true, le-leb}
+use Rattle.rules.specs.Words.{Least}
+use Rattle.rules.specs.Clock.{horizon}
+use Rattle.rules.specs.Day.{Row, arrival, Sound}
+use Rattle.rules.specs.Routes.{Follows, Route, ride, onto, Compatible, Dist, after, unreached, Earliest, itself, reached, no-route}
+use Rattle.rules.specs.Laws.Good.{Good, good-none, good-more}
+use Rattle.passes.specs.Legs.{legOf, fitsb, legsOf, legDay}
+use Rattle.passes.specs.Laws.Chains.{rowsDay, spans}
+
+-- a leg and the row that it comes from
+pub record From (A W : ℕ) (rs : List Row) (q : Row) : Type 0 where
+  pub row : Row
+  pub listed : List·Memᴰ row rs
+  pub is : q ≡ legOf A row
+  pub begins : A ≤ row .start
+  pub ends : arrival row ≤ W
+
+-- what one more row does to the legs
+data Legs (A W : ℕ) (r : Row) (rest : List Row) : List Row → Type 0 where
+  one-more : A ≤ r .start → arrival r ≤ W → Legs A W r rest (legOf A r ∷ rest)
+  as-before : (A ≤ r .start → arrival r ≤ W → ⊥) → Legs A W r rest rest
+
+legs-of : (A W : ℕ) (r : Row) (rs : List Row) → Legs A W r (legsOf A W rs) (legsOf A W (r ∷ rs))
+unfolding legsOf
+legs-of A W r rs = go (leb A (r .start)) (leb (arrival r) W) refl refl
+  where
+    go : (a b : Bool) → leb A (r .start) ≡ a → leb (arrival r) W ≡ b → Legs A W r (legsOf A W rs) (cond (a && b) (legOf A r ∷ legsOf A W rs) (legsOf A W rs))
+    go true true e f = one-more (leb-true _ _ e) (leb-true _ _ f)
+    go true false e f = as-before (λ x y. clash (sym f ∙ le-leb _ _ y))
+      where
+        clash : false ≡ true → ⊥
+        clash z = let w : _≡_ {A = ℕ} 0 1 = cc in omega arith
+    go false b e f = as-before (λ x y. clash (sym e ∙ le-leb _ _ x))
+      where
+        clash : false ≡ true → ⊥
+        clash z = let w : _≡_ {A = ℕ} 0 1 = cc in omega arith
+
+pub leg-in : (A W : ℕ) (rs : List Row) (r : Row) → List·Memᴰ r rs → A ≤ r .start → arrival r ≤ W → List·Memᴰ (legOf A r) (legsOf A W rs)
+leg-in A W (q ∷ rs) r m a w = go (legs-of A W q rs) m (λ n. leg-in A W rs r n a w)
+  where
+    go : {ls : List Row} → Legs A W q (legsOf A W rs) ls → List·Memᴰ r (q ∷ rs) → (List·Memᴰ r rs → List·Memᴰ (legOf A r) (legsOf A W rs)) → List·Memᴰ (legOf A r) ls
+    go (one-more b e) (List·Memᴰ·head x) rec = List·Memᴰ·head (ap (legOf A) x)
+    go (one-more b e) (List·Memᴰ·tail n) rec = List·Memᴰ·tail (rec n)
+    go (as-before h) (List·Memᴰ·head x) rec = absurd (h (rw x at a) (rw x at w))
+    go (as-before h) (List·Memᴰ·tail n) rec = rec n
+leg-in A W [] r m a w = absurd (List·Memᴰ·not-nil m)
+
+pub leg-out : (A W : ℕ) (rs : List Row) (q : Row) → List·Memᴰ q (legsOf A W rs) → From A W rs q
+unfolding legsOf
+leg-out A W [] q m = absurd (List·Memᴰ·not-nil m)
+leg-out A W (r ∷ rs) q m = go (legs-of A W r rs) m (leg-out A W rs q)
+  where
+    later : From A W rs q → From A W (r ∷ rs) q
+    later f = record { row = f .row; listed = List·Memᴰ·tail (f .listed); is = f .is; begins = f .begins; ends = f .ends }
+
+    go : {ls : List Row} → Legs A W r (legsOf A W rs) ls → List·Memᴰ q ls → (List·Memᴰ q (legsOf A W rs) → From A W rs q) → From A W (r ∷ rs) q
+    go (one-more b e) (List·Memᴰ·head x) rec = record { row = r; listed = List·Memᴰ·head refl; is = x; begins = b; ends = e }
+    go (one-more b e) (List·Memᴰ·tail n) rec = later (rec n)
+    go (as-before h) n rec = later (rec n)
+
+-- legs are good where the rows are
+pub legs-good : (n A W : ℕ) (rs : List Row) → Good n rs → Good n (legsOf A W rs)
+unfolding legsOf
+legs-good n A W [] g = good-none
+legs-good n A W (r ∷ rs) (good-more s up g) = go (legs-of A W r rs) (legs-good n A W rs g)
+  where
+    go : {ls : List Row} → Legs A W r (legsOf A W rs) ls → Good n (legsOf A W rs) → Good n ls
+    go (one-more b e) h =
+        good-more {r = legOf A r}
+        (record { from-below = s .from-below; to-below = s .to-below; differ = s .differ; travels = s .travels; in-day = omega (arith, s .in-day) })
+        (λ q m. let f = leg-out A W rs q m in let k : q .start ≡ f .row .start - A = ap (λ (x : Row). x .start) (f .is) in omega (arith, up (f .row) (f .listed)))
+        h
+    go (as-before x) h = h
+
+-- every leg arrives within the interval
+pub legs-end : (A W : ℕ) (rs : List Row) (q : Row) → List·Memᴰ q (legsOf A W rs) → arrival q ≤ W - A
+legs-end A W rs q m = let f = leg-out A W rs q m in let k : arrival q ≡ arrival (legOf A (f .row)) = ap arrival (f .is) in omega (arith, f .begins, f .ends)
+
+module _ (A W : ℕ) (rs : List Row) where
+  legs-route : {f l : Row} → Route (rowsDay rs) f l → A ≤ f .start → arrival l ≤ W → Route (legDay A W rs) (legOf A f) (legOf A l)
+  legs-route (ride {r = r} m) a w = ride (leg-in A W rs r m a w)
+  legs-route (onto {first = f} {q = q} m v p) a w =
+      onto {q = legOf A q} (leg-in A W rs f m a (omega (arith, v .waits, spans p))) (record { meets = v .meets; waits = omega (arith, v .waits) }) (legs-route p (omega (arith, v .waits)) w)
+
+  -- a route's last row starts no earlier than its first
+  rising : {f l : Row} → Route (rowsDay rs) f l → f .start ≤ l .start
+  rising (ride m) = omega arith
+  rising (onto m v p) = omega (arith, v .waits, rising p)
+
+  -- the route of rows behind a route of legs
+  pub record Behind (f l : Row) : Type 0 where
+    pub first : From A W rs f
+    pub last : From A W rs l
+    pub route : Route (rowsDay rs) (first .row) (last .row)
+
+  route-behind : {f l : Row} → Route (legDay A W rs) f l → Behind f l
+  route-behind (ride {r = r} m) = let t = leg-out A W rs r m in record { first = t; last = t; route = ride (t .listed) }
+  route-behind (onto {first = f} {q = q} m v p) = go (route-behind p) (leg-out A W rs f m)
+    where
+      go : {l : Row} → Behind q l → From A W rs f → Behind f l
+      go b t =
+          let qs = b .first .is in
+          let fs = t .is in
+          let meet : b .first .row .from ≡ t .row .to = sym (ap (λ (x : Row). x .from) qs) ∙ (v .meets ∙ ap (λ (x : Row). x .to) fs) in
+          let qstart : q .start ≡ b .first .row .start - A = ap (λ (x : Row). x .start) qs in
+          let farr : arrival f ≡ t .row .start - A + t .row .travel = ap arrival fs in
+          record { first = t; last = b .last; route = onto {q = b .first .row} (t .listed) (record { meets = meet; waits = omega (arith, v .waits, t .begins, b .first .begins) }) (b .route) }
+
+  -- from x on and by y, within the interval; x′ and y′ are the same times as lengths since A
+  module _ (x y x′ y′ : ℕ) (from-x : x ≡ A + x′) (by-y : y ≡ A + y′) (in-W : y ≤ W) (u v : ℕ) where
+    pub legs-compatible : (t : Compatible (rowsDay rs) x y u v) → (s : Compatible (legDay A W rs) x′ y′ u v) × (arrival (s .last) ≡ arrival (t .last) - A)
+    legs-compatible t = (
+      record {
+        first = legOf A (t .first);
+        last = legOf A (t .last);
+        route = legs-route (t .route) (omega (arith, t .begins)) (omega (arith, t .ends));
+        leaves = t .leaves;
+        enters = t .enters;
+        begins = omega (arith, t .begins);
+        ends = omega (arith, t .ends, late t);
+      },
+      omega (arith, late t),
+    )
+      where
+        late : (t : Compatible (rowsDay rs) x y u v) → A ≤ t .last .start
+        late t = omega (arith, t .begins, rising (t .route))
+
+    pub compatible-behind : (t : Compatible (legDay A W rs) x′ y′ u v) → (s : Compatible (rowsDay rs) x y u v) × (arrival (t .last) ≡ arrival (s .last) - A)
+    compatible-behind t =
+        let h = route-behind (t .route) in
+        let fs : t .first .start ≡ h .first .row .start - A = ap (λ (r : Row). r .start) (h .first .is) in
+        let ls : arrival (t .last) ≡ h .last .row .start - A + h .last .row .travel = ap arrival (h .last .is) in (
+          record {
+            first = h .first .row;
+            last = h .last .row;
+            route = h .route;
+            leaves = sym (ap (λ (r : Row). r .from) (h .first .is)) ∙ t .leaves;
+            enters = sym (ap (λ (r : Row). r .to) (h .last .is)) ∙ t .enters;
+            begins = omega (arith, t .begins, h .first .begins);
+            ends = omega (arith, t .ends, h .last .begins);
+          },
+          omega (arith, h .last .begins),
+        )
+
+-- the distance over the legs is the distance over the rows
+pub legs-distance : (A W : ℕ) (rs : List Row) (u v : ℕ) {d : Dist} → A ≤ W → Earliest (legDay A W rs) 0 (W - A) u v d → Earliest (rowsDay rs) A W u v d
+legs-distance A W rs u v aw (itself e) = itself e
+legs-distance A W rs u v aw (no-route ne h) = no-route ne (λ t. h (legs-compatible A W rs A W 0 (W - A) (omega arith) (omega arith) (omega arith) u v t .0))
+legs-distance A W rs u v aw (reached {d = d} ne h) =
+    reached ne (record { holds = there (h .holds .0) (h .holds .1); least = λ c k. below c (k .0) (k .1) })
+  where
+    there : (t : Compatible (legDay A W rs) 0 (W - A) u v) → arrival (t .last) - 0 ≡ d → (s : Compatible (rowsDay rs) A W u v) × (arrival (s .last) - A ≡ d)
+    there t e = let k = compatible-behind A W rs A W 0 (W - A) (omega arith) (omega arith) (omega arith) u v t in (k .0, omega (arith, k .1))
+
+    below : (c : ℕ) (s : Compatible (rowsDay rs) A W u v) → arrival (s .last) - A ≡ c → d ≤ c
+    below c s e =
+        let k = legs-compatible A W rs A W 0 (W - A) (omega arith) (omega arith) (omega arith) u v s in
+        omega (arith, k .1, h .least (arrival (k .0 .last) - 0) (k .0, refl))

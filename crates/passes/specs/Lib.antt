@@ -1,0 +1,4 @@
+-- What the contracts of `passes` cite, and in `Laws` that the scans give what the rules say.
+pub mod Legs
+pub mod Forward
+pub mod Laws

@@ -1,0 +1,1 @@
+// Scans over own rows.
