@@ -1,4 +1,4 @@
 pub mod Sounding
-pub mod Copying
+pub mod Storing
 pub mod Saying
 pub mod Judging

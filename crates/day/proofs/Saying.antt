@@ -5,26 +5,26 @@ use mathlib.Core.Path.{_≡_, refl, sym, ap, _∙_}
 use mathlib.Core.Logic.{_⊎_, inl, inr}
 use mathlib.Core.List.{List, [], _∷_}
 use mathlib.Core.Option.{Option, none, some}
-use Rattle.rules.specs.Words.{At, at-first, at-later}
-use Rattle.rules.specs.Day.{Row, rowAt, rowsFrom}
+use Rattle.rules.specs.Words.{At, at-first, at-later, thingsFrom}
+use Rattle.rules.specs.Day.{Row, rowAt}
 use Rattle.rules.specs.Laws.Good.{at-below}
-use Rattle.rules.specs.Laws.Rows.{rows-more, rows-end}
+use Rattle.rules.specs.Laws.Written.{things-more, things-end}
 use Rattle.day.specs.Verdicts.{Refusal, firstSaid, saidOr}
 
 module _ (says : (last : ℕ) → Row → Option ℕ) (list : List ℕ) (m i last : ℕ) where
   pub said-next : (r : Row) → i < m → r ≡ rowAt list i → says last r ≡ none
-      → firstSaid says last i (rowsFrom list (m - i) i) ≡ firstSaid says (r .start) (i + 1) (rowsFrom list (m - (i + 1)) (i + 1))
+      → firstSaid says last i (thingsFrom (rowAt list) (m - i) i) ≡ firstSaid says (r .start) (i + 1) (thingsFrom (rowAt list) (m - (i + 1)) (i + 1))
   unfolding firstSaid
-  said-next r h e s = rw (rows-more list m i h, e, rw e at s)
+  said-next r h e s = rw (things-more (rowAt list) m i h, e, rw e at s)
 
   pub said-found : (r : Row) (k : ℕ) → i < m → r ≡ rowAt list i → says last r ≡ some k
-      → firstSaid says last i (rowsFrom list (m - i) i) ≡ some (record { number = k; place = i })
+      → firstSaid says last i (thingsFrom (rowAt list) (m - i) i) ≡ some (record { number = k; place = i })
   unfolding firstSaid
-  said-found r k h e s = rw (rows-more list m i h, rw e at s)
+  said-found r k h e s = rw (things-more (rowAt list) m i h, rw e at s)
 
-  pub said-end : m ≤ i → firstSaid says last i (rowsFrom list (m - i) i) ≡ none
+  pub said-end : m ≤ i → firstSaid says last i (thingsFrom (rowAt list) (m - i) i) ≡ none
   unfolding firstSaid
-  said-end h = rw (rows-end list m i h)
+  said-end h = rw (things-end (rowAt list) m i h)
 
 -- when the row before row i started; `last` before the first
 unfoldable pub startBefore : (last : ℕ) → List Row → (i : ℕ) → ℕ

@@ -1,12 +1,12 @@
 -- Day list and who reads it.
-use Prim.Native.Nat.{ℕ, zero, suc, _+_, _*_, _/_, _≤_, _<_}
+use Prim.Native.Nat.{ℕ, _+_, _*_, _/_, _≤_, _<_}
 use mathlib.Core.Path.{_≡_}
 use mathlib.Core.Logic.{_≢_}
 use mathlib.Core.Bool.{Bool, _||_, cond}
 use mathlib.Core.List.{List, [], _∷_}
 use lib.Dec.{eqb}
 use lib.ListN.{length, getD}
-use Rattle.rules.specs.Words.{At}
+use Rattle.rules.specs.Words.{At, thingsFrom}
 use Rattle.rules.specs.Clock.{horizon}
 
 -- stops are 0 to n - 1, with n from 1 to 256
@@ -48,14 +48,9 @@ rowAt list i =
       owner = getD list (i * rowWidth + 4) 0;
     }
 
--- k rows of a list, from row i on
-unfoldable pub rowsFrom : List ℕ → (k i : ℕ) → List Row
-rowsFrom list zero i = []
-rowsFrom list (suc k) i = rowAt list i ∷ rowsFrom list k (suc i)
-
 -- the rows of a list of numbers
 abbrev pub rowsOf : List ℕ → List Row
-rowsOf list = rowsFrom list (length list / rowWidth) 0
+rowsOf list = thingsFrom (rowAt list) (length list / rowWidth) 0
 
 -- the asker sees rows whose owner is 0, public, or the asker
 abbrev pub sees : (asker : ℕ) → Row → Bool

@@ -5,5 +5,6 @@ pub mod Good
 pub mod Joined
 pub mod Checks
 pub mod Decided
+pub mod Written
 pub mod Rows
 pub mod Isolated

@@ -1,8 +1,9 @@
 -- Striking out the rows that the asker does not see.
 use Prim.Native.Nat.{ℕ, _%_, _≤_}
 use mathlib.Core.Path.{_≡_}
-use mathlib.Core.List.{List, [], _∷_, _++_}
+use mathlib.Core.List.{List, [], _∷_}
 use lib.ListN.{length}
+use Rattle.rules.specs.Words.{written}
 use Rattle.rules.specs.Day.{mostRows, rowWidth, Row, rowsOf, own}
 
 -- whole rows, and at most 2,048 of them
@@ -14,9 +15,8 @@ pub record Fit (list : List ℕ) : Type 0 where
 abbrev pub numbers : Row → List ℕ
 numbers r = r .from ∷ r .to ∷ r .start ∷ r .travel ∷ r .owner ∷ []
 
-unfoldable pub numbersOf : List Row → List ℕ
-numbersOf [] = []
-numbersOf (r ∷ rs) = numbers r ++ numbersOf rs
+abbrev pub numbersOf : List Row → List ℕ
+numbersOf = written numbers
 
 -- the list of the asker's rows alone
 abbrev pub struck : (asker : ℕ) → List ℕ → List ℕ

@@ -5,7 +5,8 @@ use borrow.Author.Needs.{needs}
 use mathlib.Core.Path.{_≡_, sym, _∙_, ap}
 use borrow.Author.Tests.{not-true, not-false}
 use lib.ListN.{length}
-use Rattle.rules.specs.Day.{rowsFrom, rowsOf}
+use Rattle.rules.specs.Words.{thingsFrom}
+use Rattle.rules.specs.Day.{rowAt, rowsOf}
 use Rattle.day.specs.Rows.{rowOf}
 use Rattle.day.specs.Verdicts.{firstSaid, faultSays, verdictOf}
 use Rattle.day.proofs.Saying.{said-next, said-found, said-end}
@@ -13,7 +14,7 @@ use Rattle.day.proofs.faults.first_fault.Statement.{statement}
 use Rattle.day.proofs.faults.first_fault.Tie as tie
 
 abbrev Inv-loop : tie.InvT-loop
-Inv-loop rows n m last₀ i₀ last i = (i ≤ m) × (firstSaid (faultSays n) (last .0) i (rowsFrom rows (m - i) i) ≡ firstSaid (faultSays n) 0 0 (rowsOf rows))
+Inv-loop rows n m last₀ i₀ last i = (i ≤ m) × (firstSaid (faultSays n) (last .0) i (thingsFrom (rowAt rows) (m - i) i) ≡ firstSaid (faultSays n) 0 0 (rowsOf rows))
 
 abbrev μ-loop : tie.MeasureT-loop
 μ-loop rows n m last₀ i₀ last i = m - i

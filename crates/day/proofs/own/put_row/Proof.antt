@@ -1,6 +1,6 @@
 -- Five stores, one after another.
 use Prim.Native.Nat.{_*_}
-use Rattle.day.proofs.Copying.{five-sets}
+use Rattle.day.proofs.Storing.{five-sets}
 use lib.ListN.{length-set}
 use native.Mathlib.Omega.{arith}
 use borrow.Author.Needs.{needs}
