@@ -1,10 +1,12 @@
 -- The forward pass: one scan of the rows in list order. Place v of the state holds the least arrival found at stop v, or nowhere.
-use Prim.Native.Nat.{ℕ}
+use Prim.Native.Nat.{ℕ, min}
 use mathlib.Core.Bool.{Bool, cond, _&&_}
 use mathlib.Core.List.{List, [], _∷_}
-use lib.Dec.{leb, ltb}
+use lib.Dec.{eqb, leb, ltb}
 use lib.ListN.{getD, set, replicate}
 use Rattle.rules.specs.Day.{Row, arrival}
+use Rattle.passes.specs.declared.forward.Arrival.{Arrival}
+use Rattle.passes.specs.declared.forward.Arrival.the-variants.{After, Unreached}
 
 -- above every reading; in a list of numbers it is unreached
 abbrev pub nowhere : ℕ
@@ -23,3 +25,20 @@ pass W (r ∷ rs) st = pass W rs (step W r st)
 -- at first stop u is reached at A, and no other
 unfoldable pub init : (A u n : ℕ) → List ℕ
 init A u n = set (replicate n nowhere) u A
+
+-- the arrival that a number stands for
+abbrev pub arrivalOf : ℕ → Arrival
+arrivalOf x = cond (eqb x nowhere) Unreached (After (record { 0 = x }))
+
+-- what a leg offers to a rider who is at its from-stop at `here`
+abbrev pub offered : (here start arrive : ℕ) → ℕ
+offered here start arrive = cond (eqb here nowhere) nowhere (cond (leb here start) arrive nowhere)
+
+-- the arrivals after one leg
+abbrev pub relaxed : List ℕ → (from to start arrive : ℕ) → List ℕ
+relaxed st from to start arrive = set st to (min (offered (getD st from 0) start arrive) (getD st to 0))
+
+-- the arrivals after some legs
+unfoldable pub passed : List Row → List ℕ → List ℕ
+passed [] st = st
+passed (r ∷ rs) st = passed rs (relaxed st (r .from) (r .to) (r .start) (arrival r))

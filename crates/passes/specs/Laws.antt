@@ -2,3 +2,4 @@ pub mod Chains
 pub mod Legs
 pub mod Forward
 pub mod Distance
+pub mod Passed

@@ -1,10 +1,15 @@
 -- Legs: the rows that a compatible route may use, with their times as lengths since A.
-use Prim.Native.Nat.{ℕ, zero, suc, _+_, _-_, _*_, _/_}
+use Prim.Native.Nat.{ℕ, _+_, _-_, _*_, _/_, _≤_, _<_}
 use mathlib.Core.Bool.{Bool, cond, _&&_}
-use mathlib.Core.List.{List, [], _∷_, _++_}
+use mathlib.Core.Path.{_≡_}
+use mathlib.Core.List.{List, [], _∷_}
 use lib.Dec.{leb}
 use lib.ListN.{length, getD}
+use Rattle.rules.specs.Words.{thingsFrom, written}
 use Rattle.rules.specs.Day.{Row, arrival, Day}
+use Rattle.passes.specs.declared.legs.Leg as declared
+use Rattle.passes.specs.declared.legs.MadeLeg.{MadeLeg}
+use Rattle.passes.specs.declared.legs.MadeLeg.the-variants.{Of, Outside}
 
 -- a row, its start a length since A; whose it was no longer matters
 abbrev pub legOf : (A : ℕ) → Row → Row
@@ -29,9 +34,8 @@ legWidth = 4
 abbrev pub legNumbers : Row → List ℕ
 legNumbers r = r .from ∷ r .to ∷ r .start ∷ arrival r ∷ []
 
-unfoldable pub legNumbersOf : List Row → List ℕ
-legNumbersOf [] = []
-legNumbersOf (r ∷ rs) = legNumbers r ++ legNumbersOf rs
+abbrev pub legNumbersOf : List Row → List ℕ
+legNumbersOf = written legNumbers
 
 -- leg j of a list of numbers, from 0
 abbrev pub legAt : List ℕ → ℕ → Row
@@ -44,10 +48,27 @@ legAt list j =
       owner = 0;
     }
 
--- k legs of a list, from leg j on
-unfoldable pub legsFrom : List ℕ → (k j : ℕ) → List Row
-legsFrom list zero j = []
-legsFrom list (suc k) j = legAt list j ∷ legsFrom list k (suc j)
-
+-- the legs of a list of numbers
 abbrev pub legsIn : List ℕ → List Row
-legsIn list = legsFrom list (length list / legWidth) 0
+legsIn list = thingsFrom (legAt list) (length list / legWidth) 0
+
+-- each leg goes between stops below n, and arrives no earlier than it starts
+pub record Laid (n : ℕ) (list : List ℕ) : Type 0 where
+  pub from-below : (j : ℕ) → j < length list / legWidth → getD list (j * legWidth) 0 < n
+  pub to-below : (j : ℕ) → j < length list / legWidth → getD list (j * legWidth + 1) 0 < n
+  pub rises : (j : ℕ) → j < length list / legWidth → getD list (j * legWidth + 2) 0 ≤ getD list (j * legWidth + 3) 0
+
+-- what is read of leg j
+pub record LegRead (list : List ℕ) (j : ℕ) (leg : declared.Leg) : Type 0 where
+  pub from : leg .from ≡ getD list (j * legWidth) 0
+  pub to : leg .to ≡ getD list (j * legWidth + 1) 0
+  pub start : leg .start .0 ≡ getD list (j * legWidth + 2) 0
+  pub arrive : leg .arrive .0 ≡ getD list (j * legWidth + 3) 0
+
+-- a leg's numbers
+abbrev pub legList : declared.Leg → List ℕ
+legList l = l .from ∷ l .to ∷ l .start .0 ∷ l .arrive .0 ∷ []
+
+-- a row as a leg, if it starts at A or later and arrives by W
+abbrev pub madeLeg : (A W : ℕ) → Row → MadeLeg
+madeLeg A W r = cond (fitsb A W r) (Of (record { from = r .from; to = r .to; start = record { 0 = r .start - A }; arrive = record { 0 = arrival r - A } })) Outside

@@ -1,18 +1,22 @@
 -- Legs have the routes of the rows that they come from, and so the same distances.
-use Prim.Native.Nat.{ℕ, _+_, _-_, _≤_, _<_}
+use Prim.Native.Nat.{ℕ, zero, suc, _+_, _-_, _*_, _/_, _≤_, _<_}
 use mathlib.Core.Path.{_≡_, refl, ap, sym, _∙_, subst}
 use mathlib.Core.Logic.{_≢_}
 use mathlib.Core.Bool.{Bool, true, false, cond, _&&_}
-use mathlib.Core.List.{List, [], _∷_, List·Memᴰ, List·Memᴰ·head, List·Memᴰ·tail, List·Memᴰ·not-nil}
+use mathlib.Core.List.{List, [], _∷_, _++_, List·Memᴰ, List·Memᴰ·head, List·Memᴰ·tail, List·Memᴰ·not-nil}
 use native.Mathlib.Omega.{arith}
 use lib.Dec.{leb}
+use lib.ListN.{length, getD}
+use lib.Seq.{getD-append-add}
 use borrow.Author.Tests.{leb-true, le-leb}
 use Rattle.rules.specs.Words.{Least}
 use Rattle.rules.specs.Clock.{horizon}
 use Rattle.rules.specs.Day.{Row, arrival, Sound}
 use Rattle.rules.specs.Routes.{Follows, Route, ride, onto, Compatible, Dist, after, unreached, Earliest, itself, reached, no-route}
 use Rattle.rules.specs.Laws.Good.{Good, good-none, good-more}
-use Rattle.passes.specs.Legs.{legOf, fitsb, legsOf, legDay}
+use Rattle.rules.specs.Words.{written}
+use Rattle.rules.specs.Laws.Written.{length-written, written-read}
+use Rattle.passes.specs.Legs.{legOf, fitsb, legsOf, legDay, legWidth, legNumbers, legNumbersOf, legAt, legsIn, Laid}
 use Rattle.passes.specs.Laws.Chains.{rowsDay, spans}
 
 -- a leg and the row that it comes from
@@ -164,3 +168,54 @@ legs-distance A W rs u v aw (reached {d = d} ne h) =
     below c s e =
         let k = legs-compatible A W rs A W 0 (W - A) (omega arith) (omega arith) (omega arith) u v s in
         omega (arith, k .1, h .least (arrival (k .0 .last) - 0) (k .0, refl))
+
+-- what is laid out is read again
+past-leg : (r : Row) (list : List ℕ) (j k : ℕ) → k ≡ legWidth + j → getD (legNumbers r ++ list) k 0 ≡ getD list j 0
+past-leg r list j k e = rw e (getD-append-add (legNumbers r) list j 0)
+
+next-leg : (r : Row) (list : List ℕ) (j : ℕ) → legAt (legNumbers r ++ list) (suc j) ≡ legAt list j
+next-leg r list j =
+    cc (
+      past-leg r list (j * legWidth) (suc j * legWidth) (omega arith),
+      past-leg r list (j * legWidth + 1) (suc j * legWidth + 1) (omega arith),
+      past-leg r list (j * legWidth + 2) (suc j * legWidth + 2) (omega arith),
+      past-leg r list (j * legWidth + 3) (suc j * legWidth + 3) (omega arith),
+    )
+
+pub length-legs : (rs : List Row) → length (legNumbersOf rs) ≡ length rs * legWidth
+length-legs = length-written legWidth legNumbers (λ r. refl)
+
+pub legs-read : (A W : ℕ) (rs : List Row) → legsIn (legNumbersOf (legsOf A W rs)) ≡ legsOf A W rs
+legs-read A W rs =
+    let e : length (legNumbersOf (legsOf A W rs)) / legWidth ≡ length (legsOf A W rs) = omega (arith, length-legs (legsOf A W rs)) in
+    rw e (written-read legWidth legNumbers (λ r. refl) legAt next-leg (legsOf A W rs) one)
+  where
+    one : (r : Row) → List·Memᴰ r (legsOf A W rs) → (list : List ℕ) → legAt (legNumbers r ++ list) 0 ≡ r
+    one r m list =
+        let t = ap (λ (q : Row). q .owner) (leg-out A W rs r m .is) in
+        let s : arrival r - r .start ≡ r .travel = omega arith in
+        rw (s, sym t)
+
+-- a leg between stops below n, that arrives no earlier than it starts
+abbrev At4 : (n : ℕ) (list : List ℕ) (at : ℕ) → Type 0
+At4 n list at = (getD list at 0 < n) × (getD list (at + 1) 0 < n) × (getD list (at + 2) 0 ≤ getD list (at + 3) 0)
+
+each-laid : (n : ℕ) (rs : List Row) → ((r : Row) → List·Memᴰ r rs → (r .from < n) × (r .to < n)) → (j : ℕ) → j < length rs → At4 n (legNumbersOf rs) (j * legWidth)
+unfolding written
+each-laid n [] h j l = absurd (omega arith)
+each-laid n (r ∷ rs) h zero l = let b = h r (List·Memᴰ·head refl) in (b .0, b .1, omega arith)
+each-laid n (r ∷ rs) h (suc j) l =
+    let t = each-laid n rs (λ q m. h q (List·Memᴰ·tail m)) j (omega arith) in
+    let list = written legNumbers rs in (
+      rw (past-leg r list (j * legWidth) (suc j * legWidth) (omega arith)) (t .0),
+      rw (past-leg r list (j * legWidth + 1) (suc j * legWidth + 1) (omega arith)) (t .1),
+      rw (past-leg r list (j * legWidth + 2) (suc j * legWidth + 2) (omega arith), past-leg r list (j * legWidth + 3) (suc j * legWidth + 3) (omega arith)) (t .2),
+    )
+
+pub legs-laid : (n : ℕ) (rs : List Row) → ((r : Row) → List·Memᴰ r rs → (r .from < n) × (r .to < n)) → Laid n (legNumbersOf rs)
+legs-laid n rs h =
+    record {
+      from-below = λ j l. each-laid n rs h j (omega (arith, length-legs rs)) .0;
+      to-below = λ j l. each-laid n rs h j (omega (arith, length-legs rs)) .1;
+      rises = λ j l. each-laid n rs h j (omega (arith, length-legs rs)) .2;
+    }

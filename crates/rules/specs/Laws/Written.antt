@@ -2,7 +2,7 @@
 use Prim.Native.Nat.{ℕ, zero, suc, _+_, _*_, _-_, _≤_, _<_}
 use mathlib.Core.Path.{_≡_, refl, sym, ap, _∙_}
 use mathlib.Core.Bool.{Bool, true, false, cond}
-use mathlib.Core.List.{List, [], _∷_, _++_, append-assoc, append-nil, List·Memᴰ, List·Memᴰ·head, List·Memᴰ·tail}
+use mathlib.Core.List.{List, [], _∷_, _++_, append-assoc, append-nil, List·Memᴰ, List·Memᴰ·head, List·Memᴰ·tail, List·Memᴰ·not-nil}
 use native.Mathlib.Omega.{arith}
 use native.Mathlib.Nat.{suc-mul, zero-mul}
 use native.Mathlib.Numerals.{add-one}
@@ -25,6 +25,13 @@ module _ {A : Type 0} (thing : ℕ → A) where
   pub things-end : (m i : ℕ) → m ≤ i → thingsFrom thing (m - i) i ≡ []
   unfolding thingsFrom
   things-end m i h = let e : m - i ≡ 0 = omega arith in rw e
+
+  -- each of them is a thing at its place
+  pub things-member : (k i : ℕ) (x : A) → List·Memᴰ x (thingsFrom thing k i) → (j : ℕ) × (i ≤ j) × (j < i + k) × (x ≡ thing j)
+  unfolding thingsFrom
+  things-member zero i x m = absurd (List·Memᴰ·not-nil m)
+  things-member (suc k) i x (List·Memᴰ·head e) = (i, omega arith, omega arith, e)
+  things-member (suc k) i x (List·Memᴰ·tail m) = let t = things-member k (suc i) x m in (t .0, omega (arith, t .1), omega (arith, t .2), t .3)
 
   -- where each thing is the next of the others, so are the lists of them
   pub things-shift : (other : ℕ → A) → ((i : ℕ) → thing (suc i) ≡ other i) → (k i : ℕ) → thingsFrom thing k (suc i) ≡ thingsFrom other k i
