@@ -1,1 +1,4 @@
 pub mod Judging
+pub mod Preparing
+pub mod Laying
+pub mod Lasting

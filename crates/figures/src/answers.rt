@@ -1,5 +1,11 @@
 // The answers of the calls.
 
+// A call that fills a list: done, or a refusal.
+pub enum Filled {
+    Done,
+    Refused { number: u32, place: u32 },
+}
+
 // The office check: the number of rows, or a refusal.
 pub enum Office {
     Rows(u32),

@@ -1,6 +1,9 @@
 // The checks of the table that the calls share.
 ghost use Rattle.day.specs.Verdicts.{Judges};
-ghost use Rattle.figures.specs.Parts.{listChecks};
+ghost use Rattle.figures.specs.Parts.{listChecks, plainChecks};
+ghost use Rattle.figures.specs.Promises.{ask};
+use clock::Reading;
+use day::LAST_CLIENT;
 use day::MOST_ROWS;
 use day::ROW_WIDTH;
 use day::Verdict;
@@ -33,6 +36,36 @@ pub fn list_check(list: &[u32], n: u32) -> Verdict
     if n > MOST_STOPS {
         return Verdict::Refused {
             number: 3,
+            place: 0,
+        };
+    }
+    Verdict::Fine
+}
+
+// Numbers 1 to 5.
+pub fn plain_check(list: &[u32], n: u32, asker: u32, a: u32, w: u32) -> Verdict
+    ensures { λ r. ⌜ Judges (plainChecks (ask (now (list .entry)) n asker a w)) r ⌝ }
+{
+    let v = list_check(list, n);
+    if let Verdict::Refused { number, place } = v {
+        return Verdict::Refused { number, place };
+    }
+    if asker > LAST_CLIENT {
+        return Verdict::Refused {
+            number: 4,
+            place: 0,
+        };
+    }
+    if a > w {
+        return Verdict::Refused {
+            number: 5,
+            place: 0,
+        };
+    }
+    let last = Reading::HORIZON;
+    if w > last.0 {
+        return Verdict::Refused {
+            number: 5,
             place: 0,
         };
     }

@@ -1,7 +1,12 @@
 // The calls of the enquiry desk. Each takes any input, and answers or refuses as the table says.
 mod answers;
+mod ask;
 mod checks;
+mod forward;
 mod office;
 
+pub use answers::Filled;
 pub use answers::Office;
+pub use forward::distances_from;
+pub use forward::table;
 pub use office::office_check;

@@ -1,7 +1,7 @@
 -- The forward pass: one scan of the rows in list order. Place v of the state holds the least arrival found at stop v, or nowhere.
-use Prim.Native.Nat.{ℕ, min}
+use Prim.Native.Nat.{ℕ, zero, suc, min}
 use mathlib.Core.Bool.{Bool, cond, _&&_}
-use mathlib.Core.List.{List, [], _∷_}
+use mathlib.Core.List.{List, [], _∷_, _++_}
 use lib.Dec.{eqb, leb, ltb}
 use lib.ListN.{getD, set, replicate}
 use Rattle.rules.specs.Day.{Row, arrival}
@@ -42,3 +42,12 @@ relaxed st from to start arrive = set st to (min (offered (getD st from 0) start
 unfoldable pub passed : List Row → List ℕ → List ℕ
 passed [] st = st
 passed (r ∷ rs) st = passed rs (relaxed st (r .from) (r .to) (r .start) (arrival r))
+
+-- the stretches of the first k sources, one after another
+unfoldable pub stretches : (stretch : ℕ → List ℕ) (k : ℕ) → List ℕ
+stretches stretch zero = []
+stretches stretch (suc k) = stretches stretch k ++ stretch k
+
+-- the stretch of source u
+abbrev pub stretchOf : (n : ℕ) → List Row → (u : ℕ) → List ℕ
+stretchOf n rs u = passed rs (init 0 u n)

@@ -3,3 +3,4 @@ pub mod Legs
 pub mod Forward
 pub mod Distance
 pub mod Passed
+pub mod Stretches

@@ -7,4 +7,5 @@ pub mod Checks
 pub mod Decided
 pub mod Written
 pub mod Rows
+pub mod Filled
 pub mod Isolated

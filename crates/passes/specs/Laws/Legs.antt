@@ -84,6 +84,16 @@ legs-good n A W (r ∷ rs) (good-more s up g) = go (legs-of A W r rs) (legs-good
         h
     go (as-before x) h = h
 
+-- there are no more legs than rows
+pub legs-fewer : (A W : ℕ) (rs : List Row) → length (legsOf A W rs) ≤ length rs
+unfolding legsOf
+legs-fewer A W [] = omega arith
+legs-fewer A W (r ∷ rs) = go (legs-of A W r rs) (legs-fewer A W rs)
+  where
+    go : {ls : List Row} → Legs A W r (legsOf A W rs) ls → length (legsOf A W rs) ≤ length rs → length ls ≤ suc (length rs)
+    go (one-more b e) h = omega arith
+    go (as-before x) h = omega arith
+
 -- every leg arrives within the interval
 pub legs-end : (A W : ℕ) (rs : List Row) (q : Row) → List·Memᴰ q (legsOf A W rs) → arrival q ≤ W - A
 legs-end A W rs q m = let f = leg-out A W rs q m in let k : arrival q ≡ arrival (legOf A (f .row)) = ap arrival (f .is) in omega (arith, f .begins, f .ends)

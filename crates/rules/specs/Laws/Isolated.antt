@@ -43,7 +43,7 @@ same-back s = record { fit = s .other-fit; other-fit = s .fit; same-rows = sym (
 
 -- the struck list is fit, and has the same rows of the asker
 
-own-shorter : (asker : ℕ) (rs : List Row) → length (own asker rs) ≤ length rs
+pub own-shorter : (asker : ℕ) (rs : List Row) → length (own asker rs) ≤ length rs
 unfolding own
 own-shorter asker [] = omega arith
 own-shorter asker (r ∷ rs) = go (sees asker r) (own-shorter asker rs)

@@ -107,6 +107,13 @@ module _ {A : Type 0} (width : ℕ) (numbers : A → List ℕ) (wide : (x : A) �
         list = sym (take-append-drop (count * width) new) ∙ rw (sym (append-nil (take (count * width) new)) ∙ h .front, h .back);
       }
 
+-- what was copied stands at the front
+pub copied-front : {A : Type 0} (width : ℕ) (numbers : A → List ℕ) → ((x : A) → length (numbers x) ≡ width) → {xs : List A} {old new : List ℕ} {count : ℕ}
+    → Copied width numbers xs old count new → (end : ℕ) → end ≡ count * width → take end new ≡ written numbers xs
+copied-front width numbers wide {xs} {old} {new} {count} c end e =
+    let long : length (written numbers xs) ≡ end = rw (sym (c .number), sym e) at (length-written width numbers wide xs) in
+    rw (c .list) (take-at (written numbers xs) (drop (count * width) old) end long)
+
 pub kept-most : {A : Type 0} {width : ℕ} {numbers : A → List ℕ} {b : Bool} {x : A} {count count′ : ℕ} {new new′ : List ℕ} → Kept width numbers b x count new count′ new′ → count′ ≤ count + 1
 kept-most {b = true} k = omega (arith, k .number)
 kept-most {b = false} k = omega (arith, k .number)

@@ -1,0 +1,56 @@
+-- The last checks of a call that takes no pivots.
+use Prim.Native.Nat.{ℕ, _≤_, _<_}
+use native.Mathlib.Omega.{arith}
+use mathlib.Core.Path.{_≡_, refl}
+use mathlib.Core.Logic.{inl, inr}
+use mathlib.Core.List.{List, [], _∷_, List·Memᴰ·not-nil}
+use lib.ListN.{length}
+use Rattle.rules.specs.Words.{Any, any-here, any-later}
+use Rattle.rules.specs.Day.{Row}
+use Rattle.rules.specs.Pivots.{pivotsOf, Astray, no-stop, too-early, too-late}
+use Rattle.rules.specs.Table.{Room, check-7, check-8, check-9, check-12, Clear, Refuses}
+use Rattle.rules.specs.Laws.Good.{at-below}
+use Rattle.passes.specs.Laws.Chains.{rowsDay}
+use Rattle.figures.specs.Parts.{lastChecks}
+use Rattle.figures.specs.Promises.{takes}
+use Rattle.figures.proofs.Judging.{passes}
+
+pub none-of-none : {A : Type 0} {P : A → Type 0} → Any P [] → ⊥
+none-of-none a = go a refl
+  where
+    go : {A : Type 0} {P : A → Type 0} {xs : List A} → Any P xs → length xs ≡ 0 → ⊥
+    go (any-here p) e = omega arith
+    go (any-later a) e = omega arith
+
+pub none-of-one : {A : Type 0} {P : A → Type 0} {x : A} → (P x → ⊥) → Any P (x ∷ []) → ⊥
+none-of-one h (any-here p) = h p
+none-of-one h (any-later a) = none-of-none a
+
+no-8 : (place : ℕ) → check-8 [] .given place → ⊥
+unfolding pivotsOf
+no-8 = passes (λ h. elim h [ inl e ↦ e refl | inr l ↦ omega arith ])
+
+module _ (rs : List Row) (n A W : ℕ) where
+  no-9 : (place : ℕ) → check-9 n A W (pivotsOf []) .given place → ⊥
+  unfolding pivotsOf
+  no-9 place l = go (l .holds)
+    where
+      go : Astray n A W [] place → ⊥
+      go (no-stop a h) = omega (arith, at-below a)
+      go (too-early a h) = omega (arith, at-below a)
+      go (too-late a h) = omega (arith, at-below a)
+
+  no-12 : (place : ℕ) → check-12 (rowsDay rs) A W (pivotsOf []) .given place → ⊥
+  unfolding pivotsOf
+  no-12 = passes (λ u. List·Memᴰ·not-nil (u .joined .listed))
+
+  pub refuses-7 : (stop : ℕ) (rooms : List Room) → n ≤ stop → Refuses (lastChecks rs n A W (takes (stop ∷ []) [] rooms)) 7 0
+  refuses-7 stop rooms l = inl (refl, (refl, any-here l))
+
+  pub refuses-10 : (named : List ℕ) (rooms : List Room) → (Any (λ stop. n ≤ stop) named → ⊥) → Any (λ room. room .has < room .wants) rooms
+      → Refuses (lastChecks rs n A W (takes named [] rooms)) 10 0
+  refuses-10 named rooms below short = inr (passes below, inr (no-8, inr (no-9, inl (refl, (refl, short)))))
+
+  pub last-clear : (named : List ℕ) (rooms : List Room) → (Any (λ stop. n ≤ stop) named → ⊥) → (Any (λ room. room .has < room .wants) rooms → ⊥)
+      → Clear (lastChecks rs n A W (takes named [] rooms))
+  last-clear named rooms below wide = (passes below, (no-8, (no-9, (passes wide, (no-12, tt)))))

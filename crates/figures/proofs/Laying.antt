@@ -1,0 +1,59 @@
+-- The legs of an ask, laid out in a room: how many, how they are read, and what a pass over them gives.
+use Prim.Native.Nat.{ℕ, _+_, _*_, _/_, _≤_, _<_}
+use native.Mathlib.Omega.{arith}
+use mathlib.Core.Path.{_≡_, refl, sym, ap, _∙_, subst}
+use mathlib.Core.List.{List, _++_}
+use lib.ListN.{length, getD, take, drop}
+use Rattle.rules.specs.Day.{mostRows, rowWidth, Row, rowsOf}
+use Rattle.rules.specs.Lent.{Fills, Stands, Copied}
+use Rattle.rules.specs.Laws.Good.{Good, good-sound}
+use Rattle.rules.specs.Laws.Rows.{length-rows}
+use Rattle.rules.specs.Laws.Written.{copied-front}
+use Rattle.rules.specs.Laws.Filled.{fills-front}
+use Rattle.passes.specs.Legs.{legWidth, legsOf, legNumbers, legNumbersOf, legsIn, Laid}
+use Rattle.passes.specs.Forward.{init, passed, stretches, stretchOf}
+use Rattle.passes.specs.Laws.Chains.{rowsDay}
+use Rattle.passes.specs.Laws.Legs.{legs-good, legs-fewer, legs-read, legs-laid}
+use Rattle.passes.specs.Laws.Passed.{passed-length, passed-stands, init-long}
+use Rattle.passes.specs.Laws.Stretches.{length-stretches, stretch-place}
+use Rattle.figures.specs.Parts.{Ready, Stretched}
+
+-- legs in the front of a room, and the part of the room that holds them
+module _ (n A W : ℕ) (rows : List ℕ) (r : Ready n A W rows) (old legs : List ℕ) (m : ℕ) (copied : Copied legWidth legNumbers (legsOf A W (rowsOf rows)) old m legs) where
+  pub legs-few : m ≤ mostRows
+  legs-few = omega (arith, copied .number, legs-fewer A W (rowsOf rows), length-rows rows, r .few)
+
+  module _ (end : ℕ) (e : end ≡ m * legWidth) where
+    part : take end legs ≡ legNumbersOf (legsOf A W (rowsOf rows))
+    part = copied-front legWidth legNumbers (λ q. refl) copied end e
+
+    pub part-laid : Laid n (take end legs)
+    part-laid = rw part (legs-laid n (legsOf A W (rowsOf rows)) (λ q l. let s = good-sound (legs-good n A W (rowsOf rows) (r .good)) q l in (s .from-below, s .to-below)))
+
+    pub part-read : legsIn (take end legs) ≡ legsOf A W (rowsOf rows)
+    part-read = ap legsIn part ∙ legs-read A W (rowsOf rows)
+
+    -- a pass over them fills the first n places with distances
+    pub pass-fills : (u : ℕ) (out out′ : List ℕ) → u < n → n ≤ length out → out′ ≡ passed (legsIn (take end legs)) (init 0 u n) ++ drop n out
+        → Fills n (Stands (rowsDay (rowsOf rows)) A W u) out out′
+    pass-fills u out out′ ul l eq =
+        subst (Fills n (Stands (rowsDay (rowsOf rows)) A W u) out) (sym (eq ∙ ap (λ (ls : List Row). passed ls (init 0 u n) ++ drop n out) part-read))
+        (fills-front n (Stands (rowsDay (rowsOf rows)) A W u) (passed (legsOf A W (rowsOf rows)) (init 0 u n)) out
+        (passed-length (legsOf A W (rowsOf rows)) (init 0 u n) ∙ init-long 0 u n) l
+        (λ v vl. passed-stands (rowsOf rows) A W n u v (r .good) (r .in-order) (r .in-day) ul vl))
+
+    -- and the passes of all sources fill the table
+    pub table-fills : (out out′ : List ℕ) → n * n ≤ length out → out′ ≡ stretches (stretchOf n (legsIn (take end legs))) n ++ drop (n * n) out
+        → Fills (n * n) (Stretched (rowsOf rows) n A W) out out′
+    table-fills out out′ l eq =
+        subst (Fills (n * n) (Stretched (rowsOf rows) n A W) out) (sym (eq ∙ ap (λ (ls : List Row). stretches (stretchOf n ls) n ++ drop (n * n) out) part-read))
+        (fills-front (n * n) (Stretched (rowsOf rows) n A W) (stretches stretch n) out (length-stretches n stretch wide n) l
+        (λ i il u v ul vl e.
+        subst (Stands (rowsDay (rowsOf rows)) A W u v) (sym (ap (λ (j : ℕ). getD (stretches stretch n) j 0) e ∙ stretch-place n stretch wide n u v ul vl))
+        (passed-stands (rowsOf rows) A W n u v (r .good) (r .in-order) (r .in-day) ul vl)))
+      where
+        stretch : ℕ → List ℕ
+        stretch = stretchOf n (legsOf A W (rowsOf rows))
+
+        wide : (u : ℕ) → length (stretch u) ≡ n
+        wide u = passed-length (legsOf A W (rowsOf rows)) (init 0 u n) ∙ init-long 0 u n
