@@ -1,3 +1,4 @@
 -- Laws of the promises.
 pub mod Unique
 pub mod Exists
+pub mod Isolated
