@@ -4,3 +4,6 @@ pub mod Forward
 pub mod Distance
 pub mod Passed
 pub mod Stretches
+pub mod Links
+pub mod Backward
+pub mod Swept

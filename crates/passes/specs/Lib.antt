@@ -1,4 +1,6 @@
 -- What the contracts of `passes` cite, and in `Laws` that the scans give what the rules say.
 pub mod Legs
 pub mod Forward
+pub mod Links
+pub mod Backward
 pub mod Laws

@@ -2,9 +2,9 @@
 ghost use mathlib.Core.Path.{_≡_};
 ghost use mathlib.Core.List.{_++_};
 ghost use Prim.Native.Nat.{_≤_, _<_, min};
-ghost use lib.ListN.{length, drop};
+ghost use lib.ListN.{length, drop, replicate};
 ghost use Rattle.passes.specs.Legs.{legsIn, Laid};
-ghost use Rattle.passes.specs.Forward.{arrivalOf, offered, relaxed, passed, init};
+ghost use Rattle.passes.specs.Forward.{nowhere, arrivalOf, offered, relaxed, passed, init};
 use crate::legs::LEG_WIDTH;
 use crate::legs::Leg;
 use crate::legs::leg_at;
@@ -40,7 +40,8 @@ fn offer(here: u32, start: Length, arrive: Length) -> u32
     if h.0 <= start.0 { arrive.0 } else { UNREACHED }
 }
 
-fn least(a: u32, b: u32) -> u32
+// The lesser of two numbers.
+pub fn least(a: u32, b: u32) -> u32
     ensures { λ r. ⌜ r ≡ min a b ⌝ }
 {
     if a < b { a } else { b }
@@ -59,16 +60,24 @@ fn relax(out: &mut [u32], l: Leg)
     out[t] = least(x, out[t]);
 }
 
+// The first n places hold no arrival.
+pub fn clear(out: &mut [u32], n: usize)
+    requires { ⌜ n ≤ length (now out) ⌝ }
+    ensures { λ _. ⌜ now (out .exit) ≡ replicate n nowhere ++ drop n (now (out .entry)) ⌝ }
+{
+    let mut v: usize = 0;
+    while v < n {
+        out[v] = UNREACHED;
+        v += 1;
+    }
+}
+
 // No stop is reached but the source, at once.
 fn begin(out: &mut [u32], n: usize, source: usize, since: u32)
     requires { ⌜ (n ≤ length (now out)) × (source < n) ⌝ }
     ensures { λ _. ⌜ now (out .exit) ≡ init since source n ++ drop n (now (out .entry)) ⌝ }
 {
-    let mut k: usize = 0;
-    while k < n {
-        out[k] = UNREACHED;
-        k += 1;
-    }
+    clear(out, n);
     out[source] = since;
 }
 

@@ -1,12 +1,17 @@
-// Scans over own rows: legs laid out once, then the forward pass from a source.
+// Scans over own rows: legs laid out once, the forward pass from a source, and the backward sweep to a target.
+mod backward;
 mod forward;
 mod legs;
+mod links;
 mod table;
 
+pub use backward::to_target;
 pub use forward::UNREACHED;
+pub use forward::clear;
 pub use forward::forward_pass;
 pub use legs::LEG_WIDTH;
 pub use legs::Leg;
 pub use legs::leg_at;
 pub use legs::make_legs;
+pub use links::link;
 pub use table::fill_table;

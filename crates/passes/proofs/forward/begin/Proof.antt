@@ -1,71 +1,37 @@
--- The loop fills the front with the number of unreached; then the source is stored.
-use Prim.Native.Nat.{ℕ, _-_, _≤_}
+use mathlib.Core.Path.{_∙_, ap}
+use Prim.Native.Nat.{ℕ}
+use mathlib.Core.List.{List}
 use native.Mathlib.Omega.{arith}
-use mathlib.Core.Path.{_≡_, refl, _∙_, ap}
-use mathlib.Core.List.{List, _++_}
-use lib.ListN.{length, drop, replicate, set, length-set, length-replicate}
+use lib.ListN.{set, drop, replicate, length-replicate}
 use lib.Seq.{set-append-left}
-use borrow.Author.Needs.{needs}
-use borrow.Author.Fill.{fill-none, fill-more}
 use Rattle.passes.specs.Forward.{nowhere, init}
+use borrow.Author.Needs.{needs}
 use Rattle.passes.proofs.forward.begin.Statement.{statement}
 use Rattle.passes.proofs.forward.begin.Tie as tie
+use Rattle.passes.proofs.forward.begin.Reads as reads
+use Rattle.passes.proofs.forward.begin.Lts as lts
+use Rattle.passes.proofs.forward.clear.Reads as clear-reads
 
-abbrev Inv-loop : tie.InvT-loop
-Inv-loop out₀ n source since k₀ out k = (k ≤ n) × ((length out ≡ length out₀) × (out ≡ replicate k nowhere ++ drop k out₀))
+-- src/forward.rt:79:5
+clear-requires : tie.Need-clear-requires
+clear-requires c κs = search needs
 
-abbrev μ-loop : tie.MeasureT-loop
-μ-loop out₀ n source since k₀ out k = n - k
-
-loop-holds : tie.Need-loop-holds Inv-loop μ-loop
-loop-holds c = (omega arith, (refl, fill-none _ nowhere))
-
-mul-out : tie.Need-mul-out Inv-loop μ-loop
+-- src/forward.rt:80:5
+mul-out : tie.Need-mul-out
 mul-out c = search needs
 
-slice-write-out : tie.Need-slice-write-out Inv-loop μ-loop
+-- src/forward.rt:80:5
+slice-write-out : tie.Need-slice-write-out
 slice-write-out c = search needs
 
-add-k : tie.Need-add-k Inv-loop μ-loop
-add-k c = search needs
+-- src/forward.rt:75:1
+same-length : tie.Need-same-length
+same-length c = search needs
 
-loop-less : tie.Need-loop-less Inv-loop μ-loop
-loop-less c = search needs
-
-loop-again : tie.Need-loop-again Inv-loop μ-loop
-loop-again c =
-    let loop = c .before .loop in
-    (omega arith, (simp length-set (loop .inv .1 .0), ap (λ (o : List ℕ). set o (loop .k) nowhere) (loop .inv .1 .1) ∙ fill-more (loop .k) nowhere (c .before .before .args .out .now) (omega arith)))
-
-mul-out-2 : tie.Need-mul-out-2 Inv-loop μ-loop
-mul-out-2 c = search needs
-
-slice-write-out-2 : tie.Need-slice-write-out-2 Inv-loop μ-loop
-slice-write-out-2 c = search needs
-
-same-length : tie.Need-same-length Inv-loop μ-loop
-same-length c = simp length-set (c .before .loop .inv .1 .0)
-
-returns : tie.Need-returns Inv-loop μ-loop
+-- src/forward.rt:75:1
+returns : tie.Need-returns
 unfolding init
-returns c =
-    let args = c .before .before .args in
-    let loop = c .before .loop in
-    let e : loop .k ≡ args .n = omega arith in ap (λ (o : List ℕ). set o (args .source) (args .since)) (rw e at (loop .inv .1 .1)) ∙ set-append-left (replicate (args .n) nowhere) (drop (args .n) (args .out .now)) (args .source) (args .since) (omega (arith, length-replicate (args .n) nowhere))
+returns c = let a = c .before .before .before .before .before .args in ap (λ (o : List ℕ). set o (a .source) (a .since)) (c .before .before .clear .ensures) ∙ set-append-left (replicate (a .n) nowhere) (drop (a .n) (a .out .now)) (a .source) (a .since) (omega (arith, length-replicate (a .n) nowhere))
 
 pub begin-spec : {M : Type 1} → statement M
-begin-spec =
-    tie.close
-    (tie.spec
-    Inv-loop
-    μ-loop
-    loop-holds
-    mul-out
-    slice-write-out
-    add-k
-    loop-less
-    loop-again
-    mul-out-2
-    slice-write-out-2
-    same-length
-    returns)
+begin-spec = tie.close (tie.spec clear-requires mul-out slice-write-out same-length returns)

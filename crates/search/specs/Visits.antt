@@ -1,0 +1,34 @@
+-- The search as its state goes from visit to visit.
+use Prim.Native.Nat.{ℕ, zero, suc, _+_}
+use mathlib.Core.Bool.{cond}
+use mathlib.Core.List.{List}
+use lib.Dec.{leb}
+use Rattle.search.specs.declared.far.Far.{Far}
+use Rattle.search.specs.declared.targets.Place.{Place}
+use Rattle.search.specs.declared.targets.Next.{Next}
+use Rattle.search.specs.declared.targets.Next.the-variants.{At, End}
+use Rattle.search.specs.declared.state.Search.{Search}
+use Rattle.search.specs.Targets.{nextIn}
+
+-- before all visits
+abbrev pub begun : Search
+begun = record { best = 0; source = 0; target = 0; visits = 0 }
+
+-- the state after a visit of v, whose farthest source is x
+unfoldable pub visited : (v : ℕ) → Far → Search → Search
+visited v x st =
+    cond (leb (x .value) (st .best))
+    (record { best = st .best; source = st .source; target = st .target; visits = st .visits + 1 })
+    (record { best = x .value; source = x .source; target = v; visits = st .visits + 1 })
+
+-- a search goes on with the next target, or ends
+abbrev pub onNext : Next → Search → (Place → Search) → Search
+onNext End st more = st
+onNext (At p) st more = more p
+
+-- at most k visits more, of the targets after `last`; far v is the farthest source of v
+unfoldable pub searched : (far : ℕ → Far) (bs : List ℕ) (n k : ℕ) (last : Place) → Search → Search
+searched far bs n zero last st = st
+searched far bs n (suc k) last st =
+    onNext (nextIn bs last n) st
+    (λ p. cond (leb (p .bound) (st .best)) st (searched far bs n k p (visited (p .stop) (far (p .stop)) st)))

@@ -1,0 +1,14 @@
+// The search for the farthest pair: bounds, the order of targets, the farthest source of a target, the state.
+mod entries;
+mod far;
+mod state;
+mod targets;
+
+pub use entries::bounds;
+pub use entries::later;
+pub use far::Far;
+pub use far::farthest;
+pub use state::Search;
+pub use targets::Next;
+pub use targets::Place;
+pub use targets::next_target;
