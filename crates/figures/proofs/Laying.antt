@@ -16,6 +16,11 @@ use Rattle.passes.specs.Laws.Chains.{rowsDay}
 use Rattle.passes.specs.Laws.Legs.{legs-good, legs-fewer, legs-read, legs-laid}
 use Rattle.passes.specs.Laws.Passed.{passed-length, passed-stands, init-long}
 use Rattle.passes.specs.Laws.Stretches.{length-stretches, stretch-place}
+use Rattle.search.specs.Farthest.{farthestIn}
+use Rattle.search.specs.Laws.Pairs.{ReachedPairs}
+use Rattle.search.specs.Laws.Visiting.{IsFar}
+use Rattle.search.specs.Laws.Farthest.{farthest-is-far, forward-told}
+use Rattle.search.specs.Laws.Bounded.{pair-positive}
 use Rattle.figures.specs.Parts.{Ready, Stretched}
 
 -- legs in the front of a room, and the part of the room that holds them
@@ -57,3 +62,10 @@ module _ (n A W : ℕ) (rows : List ℕ) (r : Ready n A W rows) (old legs : List
 
         wide : (u : ℕ) → length (stretch u) ≡ n
         wide u = passed-length (legsOf A W (rowsOf rows)) (init 0 u n) ∙ init-long 0 u n
+
+    -- the farthest stop of a list that such a pass filled
+    pub pass-far : (u : ℕ) (out′ : List ℕ) → u < n → ((v : ℕ) → v < n → Stands (rowsDay (rowsOf rows)) A W u v (getD out′ v 0))
+        → IsFar (λ v w d. ReachedPairs (rowsOf rows) A W n w v d) u (farthestIn out′ u n)
+    pass-far u out′ ul h =
+        farthest-is-far n u out′ (forward-told (rowsDay (rowsOf rows)) A W n u (r .in-day) ul out′ h)
+        (λ v d p. pair-positive (rowsOf rows) A W n (r .good) (r .in-order) (r .in-day) u v d p)

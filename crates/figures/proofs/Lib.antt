@@ -2,3 +2,4 @@ pub mod Judging
 pub mod Preparing
 pub mod Laying
 pub mod Lasting
+pub mod Answering

@@ -14,14 +14,11 @@ use Rattle.rules.specs.Table.{Takes, check-1, check-2, table, Clear, Refuses}
 use Rattle.rules.specs.Laws.Good.{none-if-no-least, faultless-good}
 use Rattle.rules.specs.Laws.Rows.{length-rows, length-numbers, rows-of-numbers}
 use Rattle.rules.specs.Laws.Isolated.{own-shorter}
-use Rattle.rules.specs.Laws.Checks.{refuses-first, refuses-then, clear-both}
+use Rattle.rules.specs.Laws.Checks.{refuses-first}
 use Rattle.rules.specs.Laws.Written.{copied-front}
-use Rattle.figures.specs.declared.answers.Filled.{Filled}
-use Rattle.figures.specs.declared.answers.Filled.the-variants as filled
 use Rattle.figures.specs.declared.ask.Prepared.{Prepared}
 use Rattle.figures.specs.declared.ask.Prepared.the-variants as prepared
 use Rattle.figures.specs.Parts.{firstChecks, lastChecks, Ready, Prepares}
-use Rattle.figures.specs.Promises.{Fulfils}
 use Rattle.figures.proofs.Judging.{few-rows}
 
 -- a list that passes 1 and 2 has at most 10,240 numbers
@@ -61,16 +58,6 @@ ready q c =
     day : Dec (q .W ≤ horizon) → q .W ≤ horizon
     day (yes l) = l
     day (no l) = absurd (c .1 .1 .1 .1 .0 0 (refl, inr (omega arith)))
-
--- an answer over own rows, after the first checks, is one over the list
-pub then-fulfils : (q : Ask) (t : Takes) (X : List Row → Type 0) (Y : Type 0) (rs : List Row) → rs ≡ asker's-rows q → Clear (firstChecks q) → (r : Filled)
-    → Fulfils (lastChecks rs (q .n) (q .A) (q .W) t) (X rs) Y r → Fulfils (table q t) (X (asker's-rows q)) Y r
-then-fulfils q t X Y rs e c filled.Done h =
-    let g : Clear (lastChecks (asker's-rows q) (q .n) (q .A) (q .W) t) = subst (λ (rs : List Row). Clear (lastChecks rs (q .n) (q .A) (q .W) t)) e (h .0) in
-    (clear-both (firstChecks q) (lastChecks (asker's-rows q) (q .n) (q .A) (q .W) t) c g, subst X e (h .1))
-then-fulfils q t X Y rs e c (filled.Refused k p) h =
-    let g : Refuses (lastChecks (asker's-rows q) (q .n) (q .A) (q .W) t) k p = subst (λ (rs : List Row). Refuses (lastChecks rs (q .n) (q .A) (q .W) t) k p) e (h .0) in
-    (refuses-then (firstChecks q) (lastChecks (asker's-rows q) (q .n) (q .A) (q .W) t) k p c g, h .1)
 
 -- what a caller learns of the first checks, by how they came out
 pub told-rows : (q : Ask) (old : List ℕ) (p : Prepared) (new : List ℕ) (k : ℕ) → Prepares q old p new → p ≡ prepared.Rows k

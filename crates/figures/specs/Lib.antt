@@ -1,3 +1,4 @@
 pub mod Promises
 pub mod Parts
+pub mod Answered
 pub mod Laws

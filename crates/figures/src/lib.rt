@@ -5,8 +5,11 @@ mod checks;
 mod forward;
 mod office;
 
+pub use answers::Answer;
+pub use answers::Eccentricity;
 pub use answers::Filled;
 pub use answers::Office;
 pub use forward::distances_from;
+pub use forward::forward_eccentricity;
 pub use forward::table;
 pub use office::office_check;

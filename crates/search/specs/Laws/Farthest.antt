@@ -115,6 +115,14 @@ module _ (day : Day) (A W n v : ℕ) (wh : W ≤ horizon) (vn : v < n) (ds : Lis
         holds = λ u l ne x. record { source-below = l; target-below = vn; differ = ne; distance = stands-holds wh (getD ds u 0) (s u l) x };
       }
 
+  -- a list of the distances from v: the pairs turned round
+  pub forward-told : ((u : ℕ) → u < n → Stands day A W v u (getD ds u 0)) → TellsSources (λ u w d. Reached n (Earliest day A W) w u d) n v ds
+  forward-told s =
+      record {
+        told = λ u d p. let t = stands-told wh (getD ds u 0) d (s u (p .target-below)) (p .distance) in (p .target-below, λ e. p .differ (sym e), t .0, t .1);
+        holds = λ u l ne x. record { source-below = vn; target-below = l; differ = λ e. ne (sym e); distance = stands-holds wh (getD ds u 0) (s u l) x };
+      }
+
   -- the same with nowhere for the sources that no pivot joins to v
   pub joined-told : (pivots : List Pivot)
       → ((u : ℕ) → u < n → u ≢ v → (Joined day A W pivots u v × Stands day A W u v (getD ds u 0)) ⊎ ((Joined day A W pivots u v → ⊥) × (getD ds u 0 ≡ nowhere)))

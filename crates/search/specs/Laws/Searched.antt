@@ -61,6 +61,19 @@ module _ {far : ℕ → Far} {bs : List ℕ} {n k : ℕ} {last : Place} {st : Se
       unfolding searched
       stops-there h = sym (going .leads) ∙ rw (left, x, h)
 
+      -- with the farthest source itself
+      pub going-visit : leb (p .bound) (st .best) ≡ false → Going far bs n (k + 1) p (visited (p .stop) (far (p .stop)) st)
+      unfolding searched
+      going-visit h =
+          record {
+            turns = omega arith;
+            count = visit-counts (p .stop) (far (p .stop)) st ∙ ap (λ (z : ℕ). z + 1) (going .count);
+            leads = sym visits-so ∙ going .leads;
+          }
+        where
+          visits-so : searched far bs n (n - k) last st ≡ searched far bs n (n - (k + 1)) p (visited (p .stop) (far (p .stop)) st)
+          visits-so = rw (left, x, h)
+
       -- with any farthest source of the target
       pub going-on : {Pair : ℕ → ℕ → ℕ → Type 0} (y : Far) → leb (p .bound) (st .best) ≡ false → IsFar Pair (p .stop) (far (p .stop)) → IsFar Pair (p .stop) y
           → Going far bs n (k + 1) p (visited (p .stop) y st)

@@ -6,7 +6,8 @@ use mathlib.Core.List.{[], _∷_}
 use Rattle.rules.specs.Lent.{Fills, Stands}
 use Rattle.passes.specs.Laws.Chains.{rowsDay}
 use Rattle.figures.specs.Promises.{ask, room, takes, DistancesFromPromise}
-use Rattle.figures.proofs.Preparing.{told-rows, told-unprepared, rows-few, part-rows, part-ready, then-fulfils}
+use Rattle.figures.proofs.Preparing.{told-rows, told-unprepared, rows-few, part-rows, part-ready}
+use Rattle.figures.proofs.Answering.{then-fulfils}
 use borrow.Author.Needs.{needs}
 use Rattle.figures.proofs.forward.distances_from.Statement.{statement}
 use Rattle.figures.proofs.forward.distances_from.Tie as tie
@@ -57,7 +58,7 @@ returns-2 : tie.Need-returns-2
 unfolding DistancesFromPromise
 returns-2 c =
     let args = c .before .before .before .before .before .before .before .before .before .before .before .before .before .before .args in
-    let t = told-rows (ask (args .list .now) (args .n) (args .asker) (args .a) (args .w)) _ _ _ (c .before .before .before .before .before .before .before .p2 .given .0 .0) (c .before .before .before .before .before .before .before .before .before .before .prepare .ensures) (c .before .before .before .before .before .before .before .p2 .given .1) in then-fulfils (ask (args .list .now) (args .n) (args .asker) (args .a) (args .w)) (takes (args .source ∷ []) [] (room (args .out .now) (args .n) ∷ [])) (λ rs. Fills (args .n) (Stands (rowsDay rs) (args .a) (args .w) (args .source)) (args .out .now) (c .before .before .own-distances-from .last .1 .1 .1 .1 .1 .0)) ((c .before .before .own-distances-from .last .1 .1 .1 .1 .1 .0) ≡ args .out .now) _ (part-rows (ask (args .list .now) (args .n) (args .asker) (args .a) (args .w)) _ (c .before .before .before .before .before .before .before .p2 .given .0 .0) _ (t .0) (t .1) (c .before .before .before .before .before .before .before .p2 .given .0 .0 * 5 - 0) (omega arith)) (t .0) (c .before .before .own-distances-from .result) (c .before .before .own-distances-from .ensures)
+    let t = told-rows (ask (args .list .now) (args .n) (args .asker) (args .a) (args .w)) _ _ _ (c .before .before .before .before .before .before .before .p2 .given .0 .0) (c .before .before .before .before .before .before .before .before .before .before .prepare .ensures) (c .before .before .before .before .before .before .before .p2 .given .1) in then-fulfils (ask (args .list .now) (args .n) (args .asker) (args .a) (args .w)) (takes (args .source ∷ []) [] (room (args .out .now) (args .n) ∷ [])) _ (part-rows (ask (args .list .now) (args .n) (args .asker) (args .a) (args .w)) _ (c .before .before .before .before .before .before .before .p2 .given .0 .0) _ (t .0) (t .1) (c .before .before .before .before .before .before .before .p2 .given .0 .0 * 5 - 0) (omega arith)) (t .0) (λ rs. Fills (args .n) (Stands (rowsDay rs) (args .a) (args .w) (args .source)) (args .out .now) (c .before .before .own-distances-from .last .1 .1 .1 .1 .1 .0)) ((c .before .before .own-distances-from .last .1 .1 .1 .1 .1 .0) ≡ args .out .now) (c .before .before .own-distances-from .result) (c .before .before .own-distances-from .ensures)
 
 pub distances-from-spec : {M : Type 1} → statement M
 distances-from-spec =

@@ -6,7 +6,8 @@ use mathlib.Core.List.{[], _∷_}
 use Rattle.rules.specs.Lent.{Fills}
 use Rattle.figures.specs.Parts.{Stretched}
 use Rattle.figures.specs.Promises.{ask, room, takes, TablePromise}
-use Rattle.figures.proofs.Preparing.{told-rows, told-unprepared, rows-few, part-rows, part-ready, then-fulfils}
+use Rattle.figures.proofs.Preparing.{told-rows, told-unprepared, rows-few, part-rows, part-ready}
+use Rattle.figures.proofs.Answering.{then-fulfils}
 use borrow.Author.Needs.{needs}
 use Rattle.figures.proofs.forward.table.Statement.{statement}
 use Rattle.figures.proofs.forward.table.Tie as tie
@@ -57,7 +58,7 @@ returns-2 : tie.Need-returns-2
 unfolding TablePromise
 returns-2 c =
     let args = c .before .before .before .before .before .before .before .before .before .before .before .before .before .before .args in
-    let t = told-rows (ask (args .list .now) (args .n) (args .asker) (args .a) (args .w)) _ _ _ (c .before .before .before .before .before .before .before .p2 .given .0 .0) (c .before .before .before .before .before .before .before .before .before .before .prepare .ensures) (c .before .before .before .before .before .before .before .p2 .given .1) in then-fulfils (ask (args .list .now) (args .n) (args .asker) (args .a) (args .w)) (takes [] [] (room (args .out .now) (args .n * args .n) ∷ [])) (λ rs. Fills (args .n * args .n) (Stretched rs (args .n) (args .a) (args .w)) (args .out .now) (c .before .before .own-table .last .1 .1 .1 .1 .0)) ((c .before .before .own-table .last .1 .1 .1 .1 .0) ≡ args .out .now) _ (part-rows (ask (args .list .now) (args .n) (args .asker) (args .a) (args .w)) _ (c .before .before .before .before .before .before .before .p2 .given .0 .0) _ (t .0) (t .1) (c .before .before .before .before .before .before .before .p2 .given .0 .0 * 5 - 0) (omega arith)) (t .0) (c .before .before .own-table .result) (c .before .before .own-table .ensures)
+    let t = told-rows (ask (args .list .now) (args .n) (args .asker) (args .a) (args .w)) _ _ _ (c .before .before .before .before .before .before .before .p2 .given .0 .0) (c .before .before .before .before .before .before .before .before .before .before .prepare .ensures) (c .before .before .before .before .before .before .before .p2 .given .1) in then-fulfils (ask (args .list .now) (args .n) (args .asker) (args .a) (args .w)) (takes [] [] (room (args .out .now) (args .n * args .n) ∷ [])) _ (part-rows (ask (args .list .now) (args .n) (args .asker) (args .a) (args .w)) _ (c .before .before .before .before .before .before .before .p2 .given .0 .0) _ (t .0) (t .1) (c .before .before .before .before .before .before .before .p2 .given .0 .0 * 5 - 0) (omega arith)) (t .0) (λ rs. Fills (args .n * args .n) (Stretched rs (args .n) (args .a) (args .w)) (args .out .now) (c .before .before .own-table .last .1 .1 .1 .1 .0)) ((c .before .before .own-table .last .1 .1 .1 .1 .0) ≡ args .out .now) (c .before .before .own-table .result) (c .before .before .own-table .ensures)
 
 pub table-spec : {M : Type 1} → statement M
 table-spec =

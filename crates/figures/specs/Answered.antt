@@ -1,0 +1,15 @@
+-- The answers that a farthest stop and the end of a search give; 0 is none.
+use mathlib.Core.Bool.{cond}
+use lib.Dec.{eqb}
+use Rattle.search.specs.declared.far.Far.{Far}
+use Rattle.search.specs.declared.state.Search.{Search}
+use Rattle.figures.specs.declared.answers.Eccentricity.{Eccentricity}
+use Rattle.figures.specs.declared.answers.Eccentricity.the-variants as eccentricity
+use Rattle.figures.specs.declared.answers.Answer.{Answer}
+use Rattle.figures.specs.declared.answers.Answer.the-variants as answer
+
+abbrev pub eccentricityOf : Far → Eccentricity
+eccentricityOf far = cond (eqb (far .value) 0) eccentricity.Nothing (eccentricity.Value (record { 0 = far .value }))
+
+abbrev pub answerOf : Search → Answer
+answerOf st = cond (eqb (st .best) 0) (answer.Nothing (st .visits)) (answer.Value (record { 0 = st .best }) (st .source) (st .target) (st .visits))
