@@ -6,14 +6,16 @@ use Rattle.clock.specs.declared.Length.{Length}
 use Rattle.rules.specs.Words.{GreatestIfAny}
 use Rattle.rules.specs.Day.{Ask}
 use Rattle.rules.specs.Table.{Check, officeTable, Clear, Refuses}
-use Rattle.rules.specs.Laws.Single.{greatest-single, stands-single, fills-single, stretch-single, clear-or-refused, OnePlace, refusal-single, table-one-place, office-one-place}
+use Rattle.rules.specs.Laws.Single.{greatest-single, stands-single, fills-single, wiped-single, stretch-single, shown-single, none-single, shown-or-none, clear-or-refused, OnePlace, refusal-single, table-one-place, office-one-place}
 use Rattle.figures.specs.declared.answers.Filled.{Filled}
 use Rattle.figures.specs.declared.answers.Filled.the-variants as filled
 use Rattle.figures.specs.declared.answers.Eccentricity.{Eccentricity}
 use Rattle.figures.specs.declared.answers.Eccentricity.the-variants as eccentricity
+use Rattle.figures.specs.declared.answers.Answer.{Answer}
+use Rattle.figures.specs.declared.answers.Answer.the-variants as answer
 use Rattle.figures.specs.declared.answers.Office.{Office}
 use Rattle.figures.specs.declared.answers.Office.the-variants as office
-use Rattle.figures.specs.Promises.{Fulfils, FulfilsEccentricity, DistancesFromPromise, TablePromise, ForwardEccentricityPromise, OfficePromise}
+use Rattle.figures.specs.Promises.{Fulfils, FulfilsEccentricity, FulfilsSearch, DistancesFromPromise, DistancesToPromise, TablePromise, ForwardEccentricityPromise, BackwardEccentricityPromise, DiameterPromise, PivotDiameterPromise, OfficePromise}
 
 length-same : (x y : Length) → x .0 ≡ y .0 → x ≡ y
 length-same x y e = ap (λ (s : ℕ). record { 0 = s }) e
@@ -45,6 +47,19 @@ module _ (cs : List Check) (one : OnePlace cs) {X Y X′ Y′ E : Type 0} (writt
   eccentricity-unique P (eccentricity.Refused k p) eccentricity.Nothing h g = not-both k p (g .0) (h .0)
   eccentricity-unique P (eccentricity.Refused k p) (eccentricity.Refused k′ p′) h g = (refusals eccentricity.Refused k p k′ p′ (h .0) (g .0), kept (h .1) (g .1))
 
+  pub search-unique : (Pair : ℕ → ℕ → ℕ → Type 0) (Bound : ℕ → ℕ → Type 0) → ((v b c : ℕ) → Bound v b → Bound v c → b ≡ c)
+      → (r r′ : Answer) → FulfilsSearch cs Pair Bound X Y r → FulfilsSearch cs Pair Bound X′ Y′ r′ → (r ≡ r′) × E
+  search-unique Pair Bound b (answer.Value d u v k) (answer.Value d′ u′ v′ k′) h g =
+      let e = shown-single b (h .1) (g .1) in (cc (length-same d d′ (e .0), e .1, e .2, e .3), written (h .2) (g .2))
+  search-unique Pair Bound b (answer.Value d u v k) (answer.Nothing k′) h g = absurd (shown-or-none b (h .1) (g .1))
+  search-unique Pair Bound b (answer.Value d u v i) (answer.Refused k p) h g = not-both k p (h .0) (g .0)
+  search-unique Pair Bound b (answer.Nothing k) (answer.Value d u v k′) h g = absurd (shown-or-none b (g .1) (h .1))
+  search-unique Pair Bound b (answer.Nothing k) (answer.Nothing k′) h g = (ap answer.Nothing (none-single b (h .1) (g .1)), written (h .2) (g .2))
+  search-unique Pair Bound b (answer.Nothing i) (answer.Refused k p) h g = not-both k p (h .0) (g .0)
+  search-unique Pair Bound b (answer.Refused k p) (answer.Value d u v i) h g = not-both k p (g .0) (h .0)
+  search-unique Pair Bound b (answer.Refused k p) (answer.Nothing i) h g = not-both k p (g .0) (h .0)
+  search-unique Pair Bound b (answer.Refused k p) (answer.Refused k′ p′) h g = (refusals answer.Refused k p k′ p′ (h .0) (g .0), kept (h .1) (g .1))
+
 -- two lists that are one old list are equal
 as-before : {o o′ old : List ℕ} → o ≡ old → o′ ≡ old → o ≡ o′
 as-before e f = e ∙ sym f
@@ -62,6 +77,28 @@ module _ (q : Ask) where
   pub forward-unique : (source : ℕ) (r r′ : Eccentricity) → ForwardEccentricityPromise q source r → ForwardEccentricityPromise q source r′ → r ≡ r′
   unfolding ForwardEccentricityPromise
   forward-unique source r r′ h g = eccentricity-unique _ (table-one-place q _) (λ x y. x) (λ x y. x) _ r r′ h g .0
+
+  pub distances-to-unique : (target : ℕ) (out scratch : List ℕ) (r r′ : Filled) (o o′ s s′ : List ℕ)
+      → DistancesToPromise q target out scratch r o s → DistancesToPromise q target out scratch r′ o′ s′ → (r ≡ r′) × ((o ≡ o′) × (s ≡ s′))
+  unfolding DistancesToPromise
+  distances-to-unique target out scratch r r′ o o′ s s′ =
+      fulfils-unique _ (table-one-place q _)
+      (λ h g. (fills-single (λ v x y l. stands-single) (h .0) (g .0), wiped-single (h .1) (g .1)))
+      (λ h g. (as-before (h .0) (g .0), as-before (h .1) (g .1))) r r′
+
+  pub backward-unique : (target : ℕ) (scratch : List ℕ) (r r′ : Eccentricity) (s s′ : List ℕ)
+      → BackwardEccentricityPromise q target scratch r s → BackwardEccentricityPromise q target scratch r′ s′ → (r ≡ r′) × (s ≡ s′)
+  unfolding BackwardEccentricityPromise
+  backward-unique target scratch r r′ s s′ = eccentricity-unique _ (table-one-place q _) wiped-single as-before _ r r′
+
+  pub diameter-unique : (scratch : List ℕ) (r r′ : Answer) (s s′ : List ℕ) → DiameterPromise q scratch r s → DiameterPromise q scratch r′ s′ → (r ≡ r′) × (s ≡ s′)
+  unfolding DiameterPromise
+  diameter-unique scratch r r′ s s′ = search-unique _ (table-one-place q _) wiped-single as-before _ _ (λ v b c. greatest-single) r r′
+
+  pub pivot-diameter-unique : (pivots scratch : List ℕ) (r r′ : Answer) (s s′ : List ℕ)
+      → PivotDiameterPromise q pivots scratch r s → PivotDiameterPromise q pivots scratch r′ s′ → (r ≡ r′) × (s ≡ s′)
+  unfolding PivotDiameterPromise
+  pivot-diameter-unique pivots scratch r r′ s s′ = search-unique _ (table-one-place q _) wiped-single as-before _ _ (λ v b c. greatest-single) r r′
 
 pub office-unique : (list : List ℕ) (n : ℕ) (r r′ : Office) → OfficePromise list n r → OfficePromise list n r′ → r ≡ r′
 unfolding OfficePromise
