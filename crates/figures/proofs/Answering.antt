@@ -9,6 +9,7 @@ use lib.Dec.{eqb}
 use borrow.Author.Tests.{eqb-true, eqb-false}
 use Rattle.rules.specs.Words.{Greatest, GreatestIfAny}
 use Rattle.rules.specs.Day.{Row, Ask, asker's-rows}
+use Rattle.rules.specs.Diameter.{Shown, NoneShown}
 use Rattle.rules.specs.Table.{Check, Takes, table, Clear, Refuses}
 use Rattle.rules.specs.Laws.Checks.{refuses-then, clear-both}
 use Rattle.search.specs.declared.far.Far.{Far}
@@ -16,9 +17,11 @@ use Rattle.figures.specs.declared.answers.Filled.{Filled}
 use Rattle.figures.specs.declared.answers.Filled.the-variants as filled
 use Rattle.figures.specs.declared.answers.Eccentricity.{Eccentricity}
 use Rattle.figures.specs.declared.answers.Eccentricity.the-variants as eccentricity
+use Rattle.figures.specs.declared.answers.Answer.{Answer}
+use Rattle.figures.specs.declared.answers.Answer.the-variants as answer
 use Rattle.figures.specs.Answered.{eccentricityOf}
 use Rattle.figures.specs.Parts.{firstChecks, lastChecks}
-use Rattle.figures.specs.Promises.{Fulfils, FulfilsEccentricity}
+use Rattle.figures.specs.Promises.{Fulfils, FulfilsEccentricity, FulfilsSearch}
 
 -- 0 is none, and any other value is the greatest
 pub far-fulfils : (cs : List Check) (P : ℕ → Type 0) (X Y : Type 0) (x : Far) → Clear cs → (x .value ≡ 0 → (d : ℕ) → P d → ⊥) → (x .value ≢ 0 → Greatest P (x .value)) → X
@@ -48,3 +51,9 @@ module _ (q : Ask) (t : Takes) (rs : List Row) (e : rs ≡ asker's-rows q) (c : 
   pub then-fulfils : (X : List Row → Type 0) (Y : Type 0) (r : Filled) → Fulfils (last rs) (X rs) Y r → Fulfils (table q t) (X (asker's-rows q)) Y r
   then-fulfils X Y filled.Done h = (then-clear (h .0), subst X e (h .1))
   then-fulfils X Y (filled.Refused k p) h = (then-refuses k p (h .0), h .1)
+
+  pub then-search : (Pair : List Row → ℕ → ℕ → ℕ → Type 0) (Bound : List Row → ℕ → ℕ → Type 0) (X Y : Type 0) (r : Answer)
+      → FulfilsSearch (last rs) (Pair rs) (Bound rs) X Y r → FulfilsSearch (table q t) (Pair (asker's-rows q)) (Bound (asker's-rows q)) X Y r
+  then-search Pair Bound X Y (answer.Value d u v k) h = (then-clear (h .0), subst (λ (rs : List Row). Shown (Pair rs) (Bound rs) (d .0) u v k) e (h .1), h .2)
+  then-search Pair Bound X Y (answer.Nothing k) h = (then-clear (h .0), subst (λ (rs : List Row). NoneShown (Pair rs) (Bound rs) k) e (h .1), h .2)
+  then-search Pair Bound X Y (answer.Refused k p) h = (then-refuses k p (h .0), h .1)

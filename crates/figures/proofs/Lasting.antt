@@ -22,9 +22,12 @@ none-of-none a = go a refl
     go (any-here p) e = omega arith
     go (any-later a) e = omega arith
 
+pub none-of-more : {A : Type 0} {P : A → Type 0} {x : A} {xs : List A} → (P x → ⊥) → (Any P xs → ⊥) → Any P (x ∷ xs) → ⊥
+none-of-more h k (any-here p) = h p
+none-of-more h k (any-later a) = k a
+
 pub none-of-one : {A : Type 0} {P : A → Type 0} {x : A} → (P x → ⊥) → Any P (x ∷ []) → ⊥
-none-of-one h (any-here p) = h p
-none-of-one h (any-later a) = none-of-none a
+none-of-one h = none-of-more h none-of-none
 
 no-8 : (place : ℕ) → check-8 [] .given place → ⊥
 unfolding pivotsOf

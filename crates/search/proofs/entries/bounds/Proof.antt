@@ -57,7 +57,9 @@ loop-less : tie.Need-loop-less Inv-loop μ-loop
 loop-less c = search needs
 
 loop-again : tie.Need-loop-again Inv-loop μ-loop
-loop-again c = enter-more (c .before .before .before .before .before .before .before .loop .inv) (c .before .before .before .before .before .before .loop-test .taken) (c .before .before .enter .ensures)
+loop-again c =
+    let loop = c .before .before .before .before .before .before .before .loop in
+    enter-more (loop .inv) (c .before .before .before .before .before .before .loop-test .taken) (c .before .before .enter .ensures)
 
 same-length : tie.Need-same-length Inv-loop μ-loop
 same-length c = c .before .loop .inv .long ∙ c .before .before .before .before .clear .kept .0

@@ -1,0 +1,70 @@
+// The search for the farthest pair: targets taken one at a time, a backward sweep for each.
+ghost use mathlib.Core.Path.{_≡_};
+ghost use Prim.Native.Nat.{_≤_};
+ghost use lib.ListN.{length};
+ghost use Rattle.rules.specs.Day.{mostStops};
+ghost use Rattle.passes.specs.Links.{Orderly, Linked};
+ghost use Rattle.passes.specs.Legs.{legsIn};
+ghost use Rattle.search.specs.Visits.{begun, searched};
+ghost use Rattle.search.specs.Targets.{beforeAll};
+ghost use Rattle.figures.specs.Answered.{farIn};
+use passes::to_target;
+use search::Far;
+use search::Next;
+use search::Place;
+use search::Search;
+use search::farthest;
+use search::next_target;
+
+// The farthest source of a target.
+pub fn far_to(
+    legs: &[u32],
+    head: &[u32; 256],
+    next: &[u32; 2049],
+    follow: &[u32; 2049],
+    target: u32,
+    n: usize,
+) -> Far
+    requires { ⌜ Orderly (now legs) ⌝ }
+    requires { ⌜ Linked (now legs) 0 (now head) (now next) (now follow) ⌝ }
+    requires { ⌜ n ≤ mostStops ⌝ }
+    ensures { λ r. ⌜ r ≡ farIn (legsIn (now (legs .entry))) n target ⌝ }
+{
+    let mut out = [0u32; 256];
+    to_target(legs, head, next, follow, target, n, &mut out);
+    farthest(&out[0..n], n, target)
+}
+
+// The search over all targets, of n stops with their bounds.
+pub fn visit_all(
+    legs: &[u32],
+    head: &[u32; 256],
+    next: &[u32; 2049],
+    follow: &[u32; 2049],
+    bounds: &[u32],
+    n: usize,
+) -> Search
+    requires { ⌜ Orderly (now legs) ⌝ }
+    requires { ⌜ Linked (now legs) 0 (now head) (now next) (now follow) ⌝ }
+    requires { ⌜ n ≤ mostStops ⌝ }
+    requires { ⌜ n ≤ length (now bounds) ⌝ }
+    ensures { λ r. ⌜ r ≡ searched (farIn (legsIn (now (legs .entry))) n) (now (bounds .entry)) n n beforeAll begun ⌝ }
+{
+    let mut st = Search::begun();
+    let mut last = Place::before_all();
+    let mut k: usize = 0;
+    while k < n {
+        let Next::At(p) = next_target(bounds, n, last) else {
+            return st;
+        };
+        if st.stops_at(p) {
+            return st;
+        }
+        let target = p.stop;
+        let far = far_to(legs, head, next, follow, target, n);
+        st = st.visit(target, far);
+        last = p;
+        k += 1;
+    }
+    st
+}
