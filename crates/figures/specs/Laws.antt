@@ -2,3 +2,4 @@
 pub mod Unique
 pub mod Exists
 pub mod Isolated
+pub mod Starred

@@ -1,4 +1,5 @@
 pub mod Promises
 pub mod Parts
 pub mod Answered
+pub mod Starred
 pub mod Laws
