@@ -1,6 +1,8 @@
 // Runs the cases of document 01 that are not starred, and prints what came.
+mod asks;
 mod office;
 
 fn main() {
     office::cases();
+    asks::cases();
 }
