@@ -2,4 +2,5 @@
 pub mod Unique
 pub mod Exists
 pub mod Isolated
+pub mod Numbers
 pub mod Starred
