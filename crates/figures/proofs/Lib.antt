@@ -3,3 +3,5 @@ pub mod Preparing
 pub mod Laying
 pub mod Lasting
 pub mod Answering
+pub mod Pivoting
+pub mod Placing

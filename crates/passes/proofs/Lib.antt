@@ -4,3 +4,4 @@ pub mod Passing
 pub mod Linking
 pub mod Sweeping
 pub mod Filling
+pub mod Reaching

@@ -7,3 +7,5 @@ pub mod Stretches
 pub mod Links
 pub mod Backward
 pub mod Swept
+pub mod Reach
+pub mod Onward

@@ -3,4 +3,6 @@ pub mod Legs
 pub mod Forward
 pub mod Links
 pub mod Backward
+pub mod Reach
+pub mod Pivots
 pub mod Laws

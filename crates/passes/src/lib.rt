@@ -3,6 +3,7 @@ mod backward;
 mod forward;
 mod legs;
 mod links;
+mod reach;
 mod table;
 
 pub use backward::to_target;
@@ -14,4 +15,5 @@ pub use legs::Leg;
 pub use legs::leg_at;
 pub use legs::make_legs;
 pub use links::link;
+pub use reach::reach_back;
 pub use table::fill_table;

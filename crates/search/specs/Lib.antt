@@ -4,4 +4,5 @@ pub mod Farthest
 pub mod Bounds
 pub mod Targets
 pub mod Visits
+pub mod Pivots
 pub mod Laws

@@ -1,7 +1,6 @@
 -- Legs have the routes of the rows that they come from, and so the same distances.
 use Prim.Native.Nat.{ℕ, zero, suc, _+_, _-_, _*_, _/_, _≤_, _<_}
-use mathlib.Core.Path.{_≡_, refl, ap, sym, _∙_, subst}
-use mathlib.Core.Logic.{_≢_}
+use mathlib.Core.Path.{_≡_, refl, ap, sym, _∙_}
 use mathlib.Core.Bool.{Bool, true, false, cond, _&&_}
 use mathlib.Core.List.{List, [], _∷_, _++_, List·Memᴰ, List·Memᴰ·head, List·Memᴰ·tail, List·Memᴰ·not-nil}
 use native.Mathlib.Omega.{arith}
@@ -9,14 +8,12 @@ use lib.Dec.{leb}
 use lib.ListN.{length, getD}
 use lib.Seq.{getD-append-add}
 use borrow.Author.Tests.{leb-true, le-leb}
-use Rattle.rules.specs.Words.{Least}
-use Rattle.rules.specs.Clock.{horizon}
-use Rattle.rules.specs.Day.{Row, arrival, Sound}
-use Rattle.rules.specs.Routes.{Follows, Route, ride, onto, Compatible, Dist, after, unreached, Earliest, itself, reached, no-route}
+use Rattle.rules.specs.Day.{Row, arrival}
+use Rattle.rules.specs.Routes.{Route, ride, onto, Compatible, Dist, Earliest, itself, reached, no-route}
 use Rattle.rules.specs.Laws.Good.{Good, good-none, good-more}
 use Rattle.rules.specs.Words.{written}
 use Rattle.rules.specs.Laws.Written.{length-written, written-read}
-use Rattle.passes.specs.Legs.{legOf, fitsb, legsOf, legDay, legWidth, legNumbers, legNumbersOf, legAt, legsIn, Laid}
+use Rattle.passes.specs.Legs.{legOf, legsOf, legDay, legWidth, legNumbers, legNumbersOf, legAt, legsIn, Laid}
 use Rattle.passes.specs.Laws.Chains.{rowsDay, spans}
 
 -- a leg and the row that it comes from
@@ -164,20 +161,22 @@ module _ (A W : ℕ) (rs : List Row) where
           omega (arith, h .last .begins),
         )
 
--- the distance over the legs is the distance over the rows
-pub legs-distance : (A W : ℕ) (rs : List Row) (u v : ℕ) {d : Dist} → A ≤ W → Earliest (legDay A W rs) 0 (W - A) u v d → Earliest (rowsDay rs) A W u v d
-legs-distance A W rs u v aw (itself e) = itself e
-legs-distance A W rs u v aw (no-route ne h) = no-route ne (λ t. h (legs-compatible A W rs A W 0 (W - A) (omega arith) (omega arith) (omega arith) u v t .0))
-legs-distance A W rs u v aw (reached {d = d} ne h) =
-    reached ne (record { holds = there (h .holds .0) (h .holds .1); least = λ c k. below c (k .0) (k .1) })
-  where
-    there : (t : Compatible (legDay A W rs) 0 (W - A) u v) → arrival (t .last) - 0 ≡ d → (s : Compatible (rowsDay rs) A W u v) × (arrival (s .last) - A ≡ d)
-    there t e = let k = compatible-behind A W rs A W 0 (W - A) (omega arith) (omega arith) (omega arith) u v t in (k .0, omega (arith, k .1))
+    -- the distance over the legs is the distance over the rows, in a part of the interval
+    pub legs-distance-in : {d : Dist} → Earliest (legDay A W rs) x′ y′ u v d → Earliest (rowsDay rs) x y u v d
+    legs-distance-in (itself e) = itself e
+    legs-distance-in (no-route ne h) = no-route ne (λ t. h (legs-compatible t .0))
+    legs-distance-in (reached {d = d} ne h) =
+        reached ne (record { holds = there (h .holds .0) (h .holds .1); least = λ c k. below c (k .0) (k .1) })
+      where
+        there : (t : Compatible (legDay A W rs) x′ y′ u v) → arrival (t .last) - x′ ≡ d → (s : Compatible (rowsDay rs) x y u v) × (arrival (s .last) - x ≡ d)
+        there t e = let k = compatible-behind t in (k .0, omega (arith, k .1))
 
-    below : (c : ℕ) (s : Compatible (rowsDay rs) A W u v) → arrival (s .last) - A ≡ c → d ≤ c
-    below c s e =
-        let k = legs-compatible A W rs A W 0 (W - A) (omega arith) (omega arith) (omega arith) u v s in
-        omega (arith, k .1, h .least (arrival (k .0 .last) - 0) (k .0, refl))
+        below : (c : ℕ) (s : Compatible (rowsDay rs) x y u v) → arrival (s .last) - x ≡ c → d ≤ c
+        below c s e = let k = legs-compatible s in omega (arith, k .1, h .least (arrival (k .0 .last) - x′) (k .0, refl))
+
+-- and in all of it
+pub legs-distance : (A W : ℕ) (rs : List Row) (u v : ℕ) {d : Dist} → A ≤ W → Earliest (legDay A W rs) 0 (W - A) u v d → Earliest (rowsDay rs) A W u v d
+legs-distance A W rs u v aw h = legs-distance-in A W rs A W 0 (W - A) (omega arith) (omega arith) (omega arith) u v h
 
 -- what is laid out is read again
 past-leg : (r : Row) (list : List ℕ) (j k : ℕ) → k ≡ legWidth + j → getD (legNumbers r ++ list) k 0 ≡ getD list j 0

@@ -105,7 +105,7 @@ pub init-long : (a u n : ℕ) → length (init a u n) ≡ n
 unfolding init
 init-long a u n = length-set (replicate n nowhere) u a ∙ length-replicate n nowhere
 
-init-bounded : (a u n : ℕ) → a ≤ nowhere → Bounded (init a u n)
+pub init-bounded : (a u n : ℕ) → a ≤ nowhere → Bounded (init a u n)
 unfolding init
 init-bounded a u n l i = go (ℕ-discrete i u)
   where

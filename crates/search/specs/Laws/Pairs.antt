@@ -180,7 +180,7 @@ reached-yes (reached ne l) h = refl
 reached-yes (no-route ne l) (inl e) = absurd (ne e)
 reached-yes (no-route ne l) (inr t) = absurd (l t)
 
-yes-reached : {rs : List Row} {A W u v : ℕ} {x : Dist} → Earliest (rowsDay rs) A W u v x → reachedb x ≡ true → (u ≡ v) ⊎ Compatible (rowsDay rs) A W u v
+pub yes-reached : {rs : List Row} {A W u v : ℕ} {x : Dist} → Earliest (rowsDay rs) A W u v x → reachedb x ≡ true → (u ≡ v) ⊎ Compatible (rowsDay rs) A W u v
 yes-reached (itself e) h = inl e
 yes-reached (reached ne l) h = inr (l .holds .0)
 yes-reached (no-route ne l) h = not-both h refl

@@ -1,0 +1,70 @@
+// The numbers of pivots, one pivot after another: onward from each pivot, and into it.
+ghost use mathlib.Core.Path.{_≡_};
+ghost use Prim.Native.Nat.{_+_, _/_, _≤_, _<_};
+ghost use lib.ListN.{length};
+ghost use Rattle.rules.specs.Clock.{horizon};
+ghost use Rattle.rules.specs.Day.{mostStops};
+ghost use Rattle.rules.specs.Pivots.{mostPivots, pivotsOf};
+ghost use Rattle.passes.specs.Legs.{legsIn, Laid};
+ghost use Rattle.passes.specs.Forward.{init, passed};
+ghost use Rattle.passes.specs.Reach.{reachInit, reachedBack};
+ghost use Rattle.passes.specs.Pivots.{onwardPivot, intoPivot};
+ghost use Rattle.search.specs.Pivots.{allPlaces, LaidOut};
+ghost use Rattle.figures.specs.Pivots.{pivotWidth, AllSit, putAt};
+use crate::pivots::PIVOT_WIDTH;
+use passes::forward_pass;
+use passes::reach_back;
+use search::PIVOT_PLACES;
+
+// One pivot's numbers, from place `at` on. Its reading comes as a length since A.
+fn lay_pivot(
+    legs: &[u32],
+    n: usize,
+    stop: u32,
+    reading: u32,
+    at: usize,
+    onward: &mut [u32],
+    into: &mut [u32],
+)
+    requires { ⌜ (stop < n) × ((reading ≤ horizon) × Laid n (now legs)) ⌝ }
+    requires { ⌜ (at + n ≤ length (now onward)) × (at + n ≤ length (now into)) ⌝ }
+    ensures { λ _. ⌜ now (onward .exit) ≡ putAt at n (passed (legsIn (now (legs .entry))) (init reading stop n)) (now (onward .entry)) ⌝ }
+    ensures { λ _. ⌜ now (into .exit) ≡ putAt at n (reachedBack (legsIn (now (legs .entry))) (reachInit reading stop n)) (now (into .entry)) ⌝ }
+{
+    let p = stop as usize;
+    forward_pass(legs, n, p, reading, &mut onward[at..]);
+    reach_back(legs, n, p, reading, &mut into[at..]);
+}
+
+// The numbers of all pivots.
+pub fn lay_pivots(
+    legs: &[u32],
+    pivots: &[u32],
+    n: usize,
+    a: u32,
+    onward: &mut [u32],
+    into: &mut [u32],
+)
+    requires { ⌜ (n ≤ mostStops) × Laid n (now legs) ⌝ }
+    requires { ⌜ (length (now pivots) / pivotWidth ≤ mostPivots) × AllSit n a horizon (now pivots) ⌝ }
+    requires { ⌜ (allPlaces ≤ length (now onward)) × (allPlaces ≤ length (now into)) ⌝ }
+    ensures { λ _. ⌜ LaidOut n (pivotsOf (now (pivots .entry))) (onwardPivot n a (legsIn (now (legs .entry)))) (now (onward .exit)) ⌝ }
+    ensures { λ _. ⌜ LaidOut n (pivotsOf (now (pivots .entry))) (intoPivot n a (legsIn (now (legs .entry)))) (now (into .exit)) ⌝ }
+{
+    let m = pivots.len() / PIVOT_WIDTH;
+    let mut i: usize = 0;
+    while i < m {
+        let from = i * PIVOT_WIDTH;
+        let at = i * PIVOT_PLACES;
+        lay_pivot(
+            legs,
+            n,
+            pivots[from],
+            pivots[from + 1] - a,
+            at,
+            onward,
+            into,
+        );
+        i += 1;
+    }
+}
