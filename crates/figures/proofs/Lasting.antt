@@ -8,8 +8,10 @@ use lib.ListN.{length}
 use Rattle.rules.specs.Words.{Any, any-here, any-later}
 use Rattle.rules.specs.Day.{Row}
 use Rattle.rules.specs.Pivots.{pivotsOf, Astray, no-stop, too-early, too-late}
-use Rattle.rules.specs.Table.{Room, check-7, check-8, check-9, check-12, Clear, Refuses}
-use Rattle.rules.specs.Laws.Good.{at-below}
+use Rattle.rules.specs.Table.{Check, Room, Unrouted, check-8, check-9, check-10, check-12, Clear, Refuses}
+use Rattle.rules.specs.Laws.Good.{at-below, none-if-no-least}
+use Rattle.rules.specs.Laws.Joined.{joined-has-route}
+use Rattle.rules.specs.Laws.Checks.{refuses-first, refuses-then, clear-both}
 use Rattle.passes.specs.Laws.Chains.{rowsDay}
 use Rattle.figures.specs.Parts.{lastChecks}
 use Rattle.figures.specs.Promises.{takes}
@@ -57,3 +59,24 @@ module _ (rs : List Row) (n A W : ℕ) where
   pub last-clear : (named : List ℕ) (rooms : List Room) → (Any (λ stop. n ≤ stop) named → ⊥) → (Any (λ room. room .has < room .wants) rooms → ⊥)
       → Clear (lastChecks rs n A W (takes named [] rooms))
   last-clear named rooms below wide = (passes below, (no-8, (no-9, (passes wide, (no-12, tt)))))
+
+-- and of one that does: 8 and 9, then the rest; 12 is not given, since a joined pair has a route
+module _ (rs : List Row) (n A W : ℕ) (pivots : List ℕ) (rooms : List Room) where
+  abbrev both : List Check
+  both = check-8 pivots ∷ check-9 n A W (pivotsOf pivots) ∷ []
+
+  abbrev rest : List Check
+  rest = check-10 rooms ∷ check-12 (rowsDay rs) A W (pivotsOf pivots) ∷ []
+
+  pub pivots-refuse : (number place : ℕ) → Refuses both number place → Refuses (lastChecks rs n A W (takes [] pivots rooms)) number place
+  pivots-refuse number place h = inr (passes none-of-none, refuses-first both rest number place h)
+
+  module _ (clear : Clear both) where
+    pub pivots-10 : Any (λ room. room .has < room .wants) rooms → Refuses (lastChecks rs n A W (takes [] pivots rooms)) 10 0
+    pivots-10 short = inr (passes none-of-none, refuses-then both rest 10 0 clear (inl (refl, (refl, short))))
+
+    pub pivots-all-clear : (Any (λ room. room .has < room .wants) rooms → ⊥) → Clear (lastChecks rs n A W (takes [] pivots rooms))
+    pivots-all-clear wide = (passes none-of-none, clear-both both rest clear (passes wide, (passes routed, tt)))
+      where
+        routed : Unrouted (rowsDay rs) A W (pivotsOf pivots) → ⊥
+        routed u = u .no-route (joined-has-route n A W (u .from) (u .to) (pivotsOf pivots) (none-if-no-least (Astray n A W (pivotsOf pivots)) (clear .1 .0)) (u .joined))

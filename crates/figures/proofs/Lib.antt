@@ -5,3 +5,4 @@ pub mod Lasting
 pub mod Answering
 pub mod Pivoting
 pub mod Placing
+pub mod Joining

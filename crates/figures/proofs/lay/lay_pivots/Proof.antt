@@ -51,7 +51,9 @@ sub-lay-pivot : tie.Need-sub-lay-pivot Inv-loop μ-loop
 sub-lay-pivot c = let args = c .before .before .before .before .before .before .before .before .args in pivot-sits (args .n) (args .a) horizon (args .pivots .now) (c .before .before .before .loop .i) (c .before .before .before .before .before .before .before .before .pre .1 .0 .1) (c .before .before .loop-test .taken) .not-before
 
 lay-pivot-requires : tie.Need-lay-pivot-requires Inv-loop μ-loop
-lay-pivot-requires c κs = let args = c .before .before .before .before .before .before .before .before .before .before .args in let sits = pivot-sits (args .n) (args .a) horizon (args .pivots .now) (c .before .before .before .before .before .loop .i) (c .before .before .before .before .before .before .before .before .before .before .pre .1 .0 .1) (c .before .before .before .before .loop-test .taken) in let inv = c .before .before .before .before .before .loop .inv in let few = c .before .before .before .before .before .before .before .before .before .before .pre .1 .0 .0 in let small = c .before .before .before .before .before .before .before .before .before .before .pre .0 .0 in let rooms = c .before .before .before .before .before .before .before .before .before .before .pre .1 .1 in ((sits .below, (omega (arith, sits .not-after), c .before .before .before .before .before .before .before .before .before .before .pre .0 .1)), (omega (arith, inv .1 .0, few, small, rooms .0), omega (arith, inv .1 .1 .0, few, small, rooms .1)))
+lay-pivot-requires c κs =
+    let loop = c .before .before .before .before .before .loop in
+    let args = c .before .before .before .before .before .before .before .before .before .before .args in let sits = pivot-sits (args .n) (args .a) horizon (args .pivots .now) (loop .i) (c .before .before .before .before .before .before .before .before .before .before .pre .1 .0 .1) (c .before .before .before .before .loop-test .taken) in let inv = loop .inv in let few = c .before .before .before .before .before .before .before .before .before .before .pre .1 .0 .0 in let small = c .before .before .before .before .before .before .before .before .before .before .pre .0 .0 in let rooms = c .before .before .before .before .before .before .before .before .before .before .pre .1 .1 in ((sits .below, (omega (arith, sits .not-after), c .before .before .before .before .before .before .before .before .before .before .pre .0 .1)), (omega (arith, inv .1 .0, few, small, rooms .0), omega (arith, inv .1 .1 .0, few, small, rooms .1)))
 
 add-i : tie.Need-add-i Inv-loop μ-loop
 add-i c = search needs

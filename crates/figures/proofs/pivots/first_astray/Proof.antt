@@ -42,7 +42,9 @@ cast-t18 : tie.Need-cast-t18 Inv-loop μ-loop
 cast-t18 c = search needs
 
 returns : tie.Need-returns Inv-loop μ-loop
-returns c = let args = c .before .before .before .before .before .before .before .args in inl (refl, is-astray (args .n) (args .a) (args .w) (args .pivots .now) (c .before .before .before .before .before .loop .i) (c .before .before .before .before .loop-test .taken) (sym (c .before .is-astray .ensures) ∙ c .if1 .taken) (c .before .before .before .before .before .loop .inv .1))
+returns c =
+    let loop = c .before .before .before .before .before .loop in
+    let args = c .before .before .before .before .before .before .before .args in inl (refl, is-astray (args .n) (args .a) (args .w) (args .pivots .now) (loop .i) (c .before .before .before .before .loop-test .taken) (sym (c .before .is-astray .ensures) ∙ c .if1 .taken) (loop .inv .1))
 
 add-i : tie.Need-add-i Inv-loop μ-loop
 add-i c = search needs
@@ -51,10 +53,14 @@ loop-less : tie.Need-loop-less Inv-loop μ-loop
 loop-less c = search needs
 
 loop-again : tie.Need-loop-again Inv-loop μ-loop
-loop-again c = let args = c .before .before .before .before .before .before .before .args in (omega arith, one-more-sits (args .n) (args .a) (args .w) (args .pivots .now) (c .before .before .before .before .before .loop .i) (c .before .before .before .before .loop-test .taken) (sym (c .before .is-astray .ensures) ∙ c .if1 .left) (c .before .before .before .before .before .loop .inv .1))
+loop-again c =
+    let loop = c .before .before .before .before .before .loop in
+    let args = c .before .before .before .before .before .before .before .args in (omega arith, one-more-sits (args .n) (args .a) (args .w) (args .pivots .now) (loop .i) (c .before .before .before .before .loop-test .taken) (sym (c .before .is-astray .ensures) ∙ c .if1 .left) (loop .inv .1))
 
 returns-2 : tie.Need-returns-2 Inv-loop μ-loop
-returns-2 c = let args = c .before .before .before .args in (λ place h. all-sit (args .n) (args .a) (args .w) (args .pivots .now) (c .before .loop .i) (c .loop-test .left) (c .before .loop .inv .1) place (h .holds), tt)
+returns-2 c =
+    let loop = c .before .loop in
+    let args = c .before .before .before .args in (λ place h. all-sit (args .n) (args .a) (args .w) (args .pivots .now) (loop .i) (c .loop-test .left) (loop .inv .1) place (h .holds), tt)
 
 pub first-astray-spec : {M : Type 1} → statement M
 first-astray-spec =

@@ -33,7 +33,9 @@ leg-at-requires : tie.Need-leg-at-requires Inv-loop μ-loop
 leg-at-requires c κs = search needs
 
 take-back-requires : tie.Need-take-back-requires Inv-loop μ-loop
-take-back-requires c κs = let loop = c .before .before .before .loop in let laid = c .before .before .before .before .before .before .before .before .before .before .pre .1 .1 .1 in let k = loop .k - 1 in let inside : k < length (c .before .before .before .before .before .before .before .before .before .before .args .legs .now) / 4 = omega arith in (omega (arith, c .before .leg-at .ensures .from, laid .from-below k inside, c .before .before .before .before .before .before .begin-back .kept), (omega (arith, c .before .leg-at .ensures .to, laid .to-below k inside, c .before .before .before .before .before .before .begin-back .kept), omega (arith, c .before .leg-at .ensures .start, c .before .leg-at .ensures .arrive, laid .rises k inside)))
+take-back-requires c κs =
+    let args = c .before .before .before .before .before .before .before .before .before .before .args in
+    let loop = c .before .before .before .loop in let laid = c .before .before .before .before .before .before .before .before .before .before .pre .1 .1 .1 in let k = loop .k - 1 in let inside : k < length (args .legs .now) / 4 = omega arith in (omega (arith, c .before .leg-at .ensures .from, laid .from-below k inside, c .before .before .before .before .before .before .begin-back .kept), (omega (arith, c .before .leg-at .ensures .to, laid .to-below k inside, c .before .before .before .before .before .before .begin-back .kept), omega (arith, c .before .leg-at .ensures .start, c .before .leg-at .ensures .arrive, laid .rises k inside)))
 
 sub-k : tie.Need-sub-k Inv-loop μ-loop
 sub-k c = search needs

@@ -41,7 +41,9 @@ same-length : tie.Need-same-length Inv-loop μ-loop
 same-length c = c .before .loop .inv .1 .0
 
 returns : tie.Need-returns Inv-loop μ-loop
-returns c = let e : c .before .loop .v ≡ c .before .before .args .n = omega arith in rw e at (c .before .loop .inv .1 .1)
+returns c =
+    let loop = c .before .loop in
+    let e : loop .v ≡ c .before .before .args .n = omega arith in rw e at (loop .inv .1 .1)
 
 pub wipe-spec : {M : Type 1} → statement M
 wipe-spec =

@@ -45,7 +45,9 @@ joins-requires c κs = search needs
 
 returns : tie.Need-returns Inv-loop μ-loop
 unfolding joinedb
-returns c = seek-found (c .before .before .before .before .before .loop .inv) (c .before .before .before .before .loop-test .taken) (sym (c .before .joins .ensures) ∙ c .if1 .taken)
+returns c =
+    let loop = c .before .before .before .before .before .loop in
+    seek-found (loop .inv) (c .before .before .before .before .loop-test .taken) (sym (c .before .joins .ensures) ∙ c .if1 .taken)
 
 add-i : tie.Need-add-i Inv-loop μ-loop
 add-i c = search needs
@@ -54,7 +56,9 @@ loop-less : tie.Need-loop-less Inv-loop μ-loop
 loop-less c = search needs
 
 loop-again : tie.Need-loop-again Inv-loop μ-loop
-loop-again c = seek-more (c .before .before .before .before .before .loop .inv) (c .before .before .before .before .loop-test .taken) (sym (c .before .joins .ensures) ∙ c .if1 .left)
+loop-again c =
+    let loop = c .before .before .before .before .before .loop in
+    seek-more (loop .inv) (c .before .before .before .before .loop-test .taken) (sym (c .before .joins .ensures) ∙ c .if1 .left)
 
 returns-2 : tie.Need-returns-2 Inv-loop μ-loop
 unfolding joinedb
