@@ -23,8 +23,4 @@ for tool in bash dirname env mktemp rm; do
 done
 
 expect "test without rt" 1 "test: the Rattle toolchain is not installed here: put its command rt on the PATH" env PATH="$bare" ./test
-if [ -d crates/figures_program ]; then
-    expect "run without rt" 1 "run: the Rattle toolchain is not installed here: put its command rt on the PATH" env PATH="$bare" ./run
-else
-    expect "run without the program" 1 "run: the figures program is not part of this repository yet" ./run
-fi
+expect "run without rt" 1 "run: the Rattle toolchain is not installed here: put its command rt on the PATH" env PATH="$bare" ./run

@@ -1,4 +1,5 @@
 // The asking calls' cases.
+use crate::pivots;
 use figures::Answer;
 use figures::Eccentricity;
 use figures::Filled;
@@ -9,7 +10,7 @@ use figures::distances_to;
 use figures::forward_eccentricity;
 use figures::table;
 
-fn word(text: &[u8]) {
+pub fn word(text: &[u8]) {
     io::write_all(1, text);
 }
 
@@ -57,7 +58,7 @@ fn show_eccentricity(answer: Eccentricity) {
     }
 }
 
-fn show_answer(answer: Answer) {
+pub fn show_answer(answer: Answer) {
     match answer {
         Answer::Value {
             value,
@@ -146,6 +147,7 @@ pub fn cases() {
     ask_all(&list, 0, 100, 259200);
     word(b"day D, asker 0, 100 to 259201\n");
     ask_all(&list, 0, 100, 259201);
+    pivots::cases(&list);
     list[18] = 0;
     word(b"day D with travel 0 in the row of owner 9, asker 0\n");
     ask_all(&list, 0, 100, 300);

@@ -1,0 +1,107 @@
+// Lines of output, each made whole and then written at once.
+ghost use mathlib.Core.List.{[], _∷_};
+ghost use Prim.Native.Nat.{_+_, _≤_};
+ghost use lib.ListN.{length};
+ghost use Rattle.figures_program.specs.Lines.{letters, numeral, space, none, refused, frame, wordsOf, room, Puts, PutsNumber, MakesLine};
+use figures::Answer;
+
+// Puts a text at a place, and answers the place after it.
+fn put(out: &mut [u8], at: usize, text: &[u8]) -> usize
+    requires { ⌜ at + length (now text) ≤ length (now out) ⌝ }
+    ensures { λ r. ⌜ Puts at (now (text .entry)) (now (out .entry)) r (now (out .exit)) ⌝ }
+{
+    let mut i: usize = 0;
+    while i < text.len() {
+        out[at + i] = text[i];
+        i += 1;
+    }
+    at + text.len()
+}
+
+// Puts a number in decimal.
+fn put_number(out: &mut [u8], at: usize, x: u64) -> usize
+    requires { ⌜ at + 20 ≤ length (now out) ⌝ }
+    ensures { λ r. ⌜ PutsNumber [] x at (now (out .entry)) r (now (out .exit)) ⌝ }
+{
+    let mut digits = [0u8; 20];
+    let k = io::decimal(x, &mut digits);
+    put(out, at, &digits[..k])
+}
+
+// Puts a space and a number.
+fn put_field(out: &mut [u8], at: usize, x: u64) -> usize
+    requires { ⌜ at + 21 ≤ length (now out) ⌝ }
+    ensures { λ r. ⌜ PutsNumber (space ∷ []) x at (now (out .entry)) r (now (out .exit)) ⌝ }
+{
+    let after = put(out, at, b" ");
+    put_number(out, after, x)
+}
+
+fn value_line(out: &mut [u8], value: u32, from: u32, to: u32, visits: u32) -> usize
+    requires { ⌜ room ≤ length (now out) ⌝ }
+    ensures { λ r. ⌜ MakesLine (numeral value ∷ numeral from ∷ numeral to ∷ numeral visits ∷ []) r (now (out .exit)) ⌝ }
+{
+    let a = put_number(out, 0, value as u64);
+    let b = put_field(out, a, from as u64);
+    let c = put_field(out, b, to as u64);
+    let d = put_field(out, c, visits as u64);
+    put(out, d, b"\n")
+}
+
+fn nothing_line(out: &mut [u8], visits: u32) -> usize
+    requires { ⌜ room ≤ length (now out) ⌝ }
+    ensures { λ r. ⌜ MakesLine (letters none ∷ numeral visits ∷ []) r (now (out .exit)) ⌝ }
+{
+    let a = put(out, 0, b"none");
+    let b = put_field(out, a, visits as u64);
+    put(out, b, b"\n")
+}
+
+fn refused_line(out: &mut [u8], number: u32, place: u32) -> usize
+    requires { ⌜ room ≤ length (now out) ⌝ }
+    ensures { λ r. ⌜ MakesLine (letters refused ∷ numeral number ∷ numeral place ∷ []) r (now (out .exit)) ⌝ }
+{
+    let a = put(out, 0, b"refused");
+    let b = put_field(out, a, number as u64);
+    let c = put_field(out, b, place as u64);
+    put(out, c, b"\n")
+}
+
+// The line of an answer.
+fn answer_line(out: &mut [u8], answer: Answer) -> usize
+    requires { ⌜ room ≤ length (now out) ⌝ }
+    ensures { λ r. ⌜ MakesLine (wordsOf answer) r (now (out .exit)) ⌝ }
+{
+    match answer {
+        Answer::Value {
+            value,
+            from,
+            to,
+            visits,
+        } => value_line(out, value.0, from, to, visits),
+        Answer::Nothing { visits } => nothing_line(out, visits),
+        Answer::Refused { number, place } => refused_line(out, number, place),
+    }
+}
+
+// The line that names a line of the input that is no frame.
+fn frame_line(out: &mut [u8], line: u64) -> usize
+    requires { ⌜ room ≤ length (now out) ⌝ }
+    ensures { λ r. ⌜ MakesLine (letters frame ∷ numeral line ∷ []) r (now (out .exit)) ⌝ }
+{
+    let a = put(out, 0, b"frame");
+    let b = put_field(out, a, line);
+    put(out, b, b"\n")
+}
+
+pub fn print_answer(answer: Answer) {
+    let mut out = [0u8; 128];
+    let end = answer_line(&mut out, answer);
+    io::write_all(1, &out[0..end]);
+}
+
+pub fn print_frame(line: u64) {
+    let mut out = [0u8; 128];
+    let end = frame_line(&mut out, line);
+    io::write_all(1, &out[0..end]);
+}
