@@ -1,4 +1,5 @@
 // The asking calls' cases.
+use crate::DAY_D;
 use crate::pivots;
 use figures::Answer;
 use figures::Eccentricity;
@@ -106,43 +107,7 @@ fn ask_all(list: &[u32; 35], asker: u32, a: u32, w: u32) {
 }
 
 pub fn cases() {
-    let mut list = [
-        0,
-        1,
-        100,
-        20,
-        0,
-        1,
-        2,
-        120,
-        30,
-        0,
-        0,
-        2,
-        130,
-        10,
-        7,
-        1,
-        4,
-        130,
-        5,
-        9,
-        2,
-        3,
-        145,
-        15,
-        0,
-        2,
-        3,
-        150,
-        40,
-        0,
-        3,
-        4,
-        200,
-        5,
-        0,
-    ];
+    let mut list = DAY_D;
     word(b"day D, asker 0, 100 to 259200\n");
     ask_all(&list, 0, 100, 259200);
     word(b"day D, asker 0, 100 to 259201\n");

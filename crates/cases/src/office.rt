@@ -1,4 +1,5 @@
 // The office check's cases.
+use crate::DAY_D;
 use figures::Office;
 use figures::office_check;
 
@@ -46,43 +47,7 @@ fn horizon() {
 }
 
 fn day_d() {
-    let mut list = [
-        0,
-        1,
-        100,
-        20,
-        0,
-        1,
-        2,
-        120,
-        30,
-        0,
-        0,
-        2,
-        130,
-        10,
-        7,
-        1,
-        4,
-        130,
-        5,
-        9,
-        2,
-        3,
-        145,
-        15,
-        0,
-        2,
-        3,
-        150,
-        40,
-        0,
-        3,
-        4,
-        200,
-        5,
-        0,
-    ];
+    let mut list = DAY_D;
     show(b"office, day D", office_check(&list, 5));
     show(b"office, day D for 4 stops", office_check(&list, 4));
     show(b"office, day D for 0 stops", office_check(&list, 0));
