@@ -10,7 +10,7 @@
  * earliest arrival, less `a`.
  *
  * Every call takes numbers of any value, and answers or refuses. It allocates nothing, keeps nothing between calls, and may
- * be called from several threads at once where they lend it different lists. It needs about FIGURES_STACK bytes of stack.
+ * be called from several threads at once where they lend it different lists. It needs less than FIGURES_STACK bytes of stack.
  *
  * A list is a pointer and how many 32-bit numbers it has. The pointer is never null and is aligned as uint32_t is, even
  * for a list of 0 numbers. A list that a call writes to (`out`, `scratch`, `reply`) overlaps no other list of the call.
@@ -62,7 +62,7 @@ extern "C" {
 #define FIGURES_HORIZON UINT32_C(259200)        /* the latest reading */
 #define FIGURES_SCRATCH 16384                   /* numbers of scratch */
 #define FIGURES_UNREACHED UINT32_C(4294967295)  /* a distance in a list where there is no journey */
-#define FIGURES_STACK 262144                    /* bytes of stack that a call needs */
+#define FIGURES_STACK 262144                    /* bytes of stack, enough for any call */
 
 /* Distances from `source`: out[v] becomes the distance to stop v, for the first n places; the rest is kept.
  * Answer: {1, 0, 0, 0, 0}. Refuses by 1 to 7 and 10. */
