@@ -3,8 +3,8 @@
  *
  * A day list holds rows of five numbers: from, to, start, travel, owner. Stops are 0 to n - 1. Times are whole seconds.
  * Owner 0 is public; an asker sees the rows whose owner is 0 or the asker, and those are the asker's rows, numbered from 0
- * in list order. No answer, refusal or list depends on a row that the asker does not see. Only the office check reads all
- * rows, and numbers them in the whole list.
+ * in list order. No answer, refusal or lent list depends on a row that the asker does not see, but for the refusals 1 and
+ * 2, which are about the list as a whole. Only the office check reads all rows, and numbers them in the whole list.
  *
  * `a` and `w` are the interval's two clock readings: a journey starts at `a` or later and ends by `w`. A distance is the
  * earliest arrival, less `a`.

@@ -2,7 +2,7 @@
 
 A day list is a sequence of whole numbers, five a row: from, to, start, travel, owner. `n` is the number of stops, `a` and `w`
 are the interval's readings in seconds. An asker sees the rows whose owner is 0 or the asker, and no answer or refusal depends
-on any other row.
+on any other row, but for the refusals 1 and 2, which are about the list as a whole.
 
 Each call gives its answer, or Refused. A number that does not fit 32 bits is a ValueError.
 """

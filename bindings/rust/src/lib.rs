@@ -1,8 +1,9 @@
 //! The journey figures of the enquiry desk, over the proved library that `tools/library` makes ready to link.
 //!
 //! A day list is a slice of numbers, five a row: from, to, start, travel, owner. Stops are 0 to n - 1, times are whole
-//! seconds. Owner 0 is public; an asker sees the rows whose owner is 0 or the asker, and no answer, refusal or list depends
-//! on any other row. A distance is the earliest arrival, less the interval's first reading.
+//! seconds. Owner 0 is public; an asker sees the rows whose owner is 0 or the asker, and no answer, refusal or lent
+//! list depends on any other row, but for the refusals 1 and 2, which are about the list as a whole. A distance is the
+//! earliest arrival, less the interval's first reading.
 //!
 //! Every call takes numbers of any value, and answers or refuses; none panics or allocates. A call needs less than
 //! [`STACK`] bytes of stack.
