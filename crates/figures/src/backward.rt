@@ -13,12 +13,12 @@ use crate::answers::Filled;
 use crate::answers::eccentricity_of;
 use crate::ask::Prepared;
 use crate::ask::prepare;
-use crate::scratch::SCRATCH;
-use crate::scratch::wipe;
+use crate::checks::SCRATCH;
 use crate::visits::far_to;
 use clock::Reading;
 use day::ROW_WIDTH;
 use passes::LEG_WIDTH;
+use passes::fill;
 use passes::link;
 use passes::make_legs;
 use passes::to_target;
@@ -63,7 +63,7 @@ fn own_distances_to(
     let mut follow = [0u32; 2049];
     link(&legs[0..end], &mut head, &mut next, &mut follow);
     to_target(&legs[0..end], &head, &next, &follow, target, stops, out);
-    wipe(scratch);
+    fill(scratch, SCRATCH, 0);
     Filled::Done
 }
 
@@ -123,7 +123,7 @@ fn own_backward_eccentricity(
     let mut follow = [0u32; 2049];
     link(&legs[0..end], &mut head, &mut next, &mut follow);
     let far = far_to(&legs[0..end], &head, &next, &follow, stop, n as usize);
-    wipe(scratch);
+    fill(scratch, SCRATCH, 0);
     eccentricity_of(far)
 }
 

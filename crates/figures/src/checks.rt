@@ -11,6 +11,9 @@ use day::Verdict;
 // How many stops there are at most.
 const MOST_STOPS: u32 = 256;
 
+// How many places of scratch a call wants.
+pub const SCRATCH: usize = 16384;
+
 // Numbers 1, 2 and 3.
 pub fn list_check(list: &[u32], n: u32) -> Verdict
     ensures { λ r. ⌜ Judges (listChecks (now (list .entry)) n) r ⌝ }

@@ -16,16 +16,16 @@ use crate::answers::Answer;
 use crate::answers::answer_of;
 use crate::ask::Prepared;
 use crate::ask::prepare;
+use crate::checks::SCRATCH;
 use crate::lay::lay_pivots;
 use crate::pivots::PIVOT_WIDTH;
 use crate::pivots::pivots_check;
-use crate::scratch::SCRATCH;
-use crate::scratch::wipe;
 use crate::visits::visit_joined;
 use clock::Reading;
 use day::ROW_WIDTH;
 use day::Verdict;
 use passes::LEG_WIDTH;
+use passes::fill;
 use passes::link;
 use passes::make_legs;
 use search::Search;
@@ -87,7 +87,7 @@ fn own_pivot_diameter(
         };
     }
     let st = search_joined(rows, n, a, w, pivots);
-    wipe(scratch);
+    fill(scratch, SCRATCH, 0);
     answer_of(st)
 }
 

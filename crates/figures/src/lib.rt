@@ -8,7 +8,6 @@ mod joined;
 mod lay;
 mod office;
 mod pivots;
-mod scratch;
 mod visits;
 mod widest;
 

@@ -12,12 +12,12 @@ use crate::answers::Answer;
 use crate::answers::answer_of;
 use crate::ask::Prepared;
 use crate::ask::prepare;
-use crate::scratch::SCRATCH;
-use crate::scratch::wipe;
+use crate::checks::SCRATCH;
 use crate::visits::visit_all;
 use clock::Reading;
 use day::ROW_WIDTH;
 use passes::LEG_WIDTH;
+use passes::fill;
 use passes::link;
 use passes::make_legs;
 use search::bounds;
@@ -44,7 +44,7 @@ fn own_diameter(rows: &[u32], n: u32, a: u32, w: u32, scratch: &mut [u32]) -> An
     let mut entered = [0u32; 256];
     bounds(&legs[0..end], stops, &mut entered);
     let st = visit_all(&legs[0..end], &head, &next, &follow, &entered, stops);
-    wipe(scratch);
+    fill(scratch, SCRATCH, 0);
     answer_of(st)
 }
 

@@ -2,9 +2,10 @@
 ghost use mathlib.Core.Path.{_≡_};
 ghost use mathlib.Core.List.{_++_};
 ghost use Prim.Native.Nat.{_≤_, _<_, min};
-ghost use lib.ListN.{length, drop, replicate};
+ghost use lib.ListN.{length, drop};
 ghost use Rattle.passes.specs.Legs.{legsIn, Laid};
-ghost use Rattle.passes.specs.Forward.{nowhere, arrivalOf, offered, relaxed, passed, init};
+ghost use Rattle.passes.specs.Forward.{arrivalOf, offered, relaxed, passed, init};
+use crate::front::fill;
 use crate::legs::LEG_WIDTH;
 use crate::legs::Leg;
 use crate::legs::leg_at;
@@ -60,24 +61,12 @@ fn relax(out: &mut [u32], l: Leg)
     out[t] = least(x, out[t]);
 }
 
-// The first n places hold no arrival.
-pub fn clear(out: &mut [u32], n: usize)
-    requires { ⌜ n ≤ length (now out) ⌝ }
-    ensures { λ _. ⌜ now (out .exit) ≡ replicate n nowhere ++ drop n (now (out .entry)) ⌝ }
-{
-    let mut v: usize = 0;
-    while v < n {
-        out[v] = UNREACHED;
-        v += 1;
-    }
-}
-
 // No stop is reached but the source, at once.
 fn begin(out: &mut [u32], n: usize, source: usize, since: u32)
     requires { ⌜ (n ≤ length (now out)) × (source < n) ⌝ }
     ensures { λ _. ⌜ now (out .exit) ≡ init since source n ++ drop n (now (out .entry)) ⌝ }
 {
-    clear(out, n);
+    fill(out, n, UNREACHED);
     out[source] = since;
 }
 

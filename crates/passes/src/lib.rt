@@ -1,6 +1,7 @@
 // Scans over own rows: legs laid out once, the forward pass from a source, and the backward sweep to a target.
 mod backward;
 mod forward;
+mod front;
 mod legs;
 mod links;
 mod reach;
@@ -8,8 +9,8 @@ mod table;
 
 pub use backward::to_target;
 pub use forward::UNREACHED;
-pub use forward::clear;
 pub use forward::forward_pass;
+pub use front::fill;
 pub use legs::LEG_WIDTH;
 pub use legs::Leg;
 pub use legs::leg_at;

@@ -2,10 +2,11 @@
 ghost use mathlib.Core.Path.{_≡_};
 ghost use mathlib.Core.List.{_++_};
 ghost use Prim.Native.Nat.{_≤_, _<_, max};
-ghost use lib.ListN.{length, drop, replicate};
+ghost use lib.ListN.{length, drop};
 ghost use Rattle.rules.specs.Clock.{horizon};
 ghost use Rattle.passes.specs.Legs.{legsIn, Laid};
 ghost use Rattle.passes.specs.Reach.{caught, caughtBy, reachedBack, reachInit};
+use crate::front::fill;
 use crate::legs::LEG_WIDTH;
 use crate::legs::Leg;
 use crate::legs::leg_at;
@@ -39,24 +40,12 @@ fn take_back(out: &mut [u32], l: Leg)
     out[f] = greater(x, out[f]);
 }
 
-// The first n places hold no start.
-fn wipe(out: &mut [u32], n: usize)
-    requires { ⌜ n ≤ length (now out) ⌝ }
-    ensures { λ _. ⌜ now (out .exit) ≡ replicate n 0 ++ drop n (now (out .entry)) ⌝ }
-{
-    let mut v: usize = 0;
-    while v < n {
-        out[v] = 0;
-        v += 1;
-    }
-}
-
 // No stop but the pivot's own is in time without a leg.
 fn begin_back(out: &mut [u32], n: usize, stop: usize, by: u32)
     requires { ⌜ (n ≤ length (now out)) × ((stop < n) × (by ≤ horizon)) ⌝ }
     ensures { λ _. ⌜ now (out .exit) ≡ reachInit by stop n ++ drop n (now (out .entry)) ⌝ }
 {
-    wipe(out, n);
+    fill(out, n, 0);
     out[stop] = by + 1;
 }
 

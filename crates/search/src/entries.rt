@@ -9,7 +9,7 @@ ghost use Rattle.passes.specs.Forward.{nowhere};
 ghost use Rattle.search.specs.Bounds.{laterOf, boundsOf};
 use passes::LEG_WIDTH;
 use passes::UNREACHED;
-use passes::clear;
+use passes::fill;
 
 // The later of a bound, if there is one, and another arrival.
 pub fn later(bound: u32, arrive: u32) -> u32
@@ -36,7 +36,7 @@ pub fn bounds(legs: &[u32], n: usize, out: &mut [u32])
     requires { ⌜ (n ≤ length (now out)) × Good n (legsIn (now legs)) ⌝ }
     ensures { λ _. ⌜ now (out .exit) ≡ boundsOf n (legsIn (now (legs .entry))) ++ drop n (now (out .entry)) ⌝ }
 {
-    clear(out, n);
+    fill(out, n, UNREACHED);
     let m = legs.len() / LEG_WIDTH;
     let mut j: usize = 0;
     while j < m {

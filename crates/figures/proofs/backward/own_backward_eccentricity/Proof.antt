@@ -68,8 +68,8 @@ far-to-requires c κs =
     let args = c .before .before .before .before .before .before .before .before .before .before .before .before .before .before .before .before .before .before .args in
     (part-orderly (args .n) (args .a) (args .w) (args .rows .now) (c .before .before .before .before .before .before .before .before .before .before .before .before .before .before .before .before .before .before .pre) _ _ (c .before .before .before .before .before .before .before .before .before .before .before .before .make-legs .result) (c .before .before .before .before .before .before .before .before .before .before .before .before .make-legs .ensures) (c .before .before .before .before .before .before .before .before .before .before .before .before .make-legs .result * 4 - 0) (omega arith), (c .before .before .before .before .before .link .ensures, c .before .before .before .before .before .before .before .before .before .before .before .before .before .before .before .before .before .before .pre .most-stops))
 
-wipe-requires : tie.Need-wipe-requires
-wipe-requires c κs = search needs
+fill-requires : tie.Need-fill-requires
+fill-requires c κs = search needs
 
 eccentricity-of-requires : tie.Need-eccentricity-of-requires
 eccentricity-of-requires c κs = search needs
@@ -80,7 +80,7 @@ same-length c = search needs
 returns-3 : tie.Need-returns-3
 returns-3 c =
     let args = c .before .before .before .before .before .before .before .before .before .before .before .before .before .before .before .before .before .before .before .before .before .before .before .before .args in
-    let far = rw (sym (c .before .before .before .before .before .far-to .ensures)) at (sweep-far (args .n) (args .a) (args .w) (args .rows .now) (c .before .before .before .before .before .before .before .before .before .before .before .before .before .before .before .before .before .before .before .before .before .before .before .before .pre) _ _ (c .before .before .before .before .before .before .before .before .before .before .before .before .before .before .before .before .before .before .make-legs .result) (c .before .before .before .before .before .before .before .before .before .before .before .before .before .before .before .before .before .before .make-legs .ensures) (c .before .before .before .before .before .before .before .before .before .before .before .before .before .before .before .before .before .before .make-legs .result * 4 - 0) (omega arith) (args .stop) (c .before .before .before .before .before .before .before .before .before .before .before .before .before .before .before .before .before .before .before .before .before .if1 .left)) in rw (c .eccentricity-of .ensures) (far-fulfils (lastChecks (rowsOf (args .rows .now)) (args .n) (args .a) (args .w) (takes (args .stop ∷ []) [] (room (args .scratch .now) scratchPlaces ∷ []))) _ _ _ (c .before .before .before .before .before .far-to .result) (last-clear (rowsOf (args .rows .now)) (args .n) (args .a) (args .w) (args .stop ∷ []) (room (args .scratch .now) scratchPlaces ∷ []) (none-of-one (λ l. omega (arith, c .before .before .before .before .before .before .before .before .before .before .before .before .before .before .before .before .before .before .before .before .before .if1 .left))) (none-of-one (λ l. omega (arith, c .before .before .before .before .before .before .before .before .before .before .before .before .before .before .before .before .before .before .before .before .if2 .left)))) (λ z d p. far .nobody z (p .0) d (p .1)) (far .greatest) (scratch-wiped (args .scratch .now) _ (c .before .before .before .before .before .before .before .before .before .before .before .before .before .before .before .before .before .before .before .before .if2 .left) (c .before .before .before .wipe .ensures)))
+    let far = rw (sym (c .before .before .before .before .before .far-to .ensures)) at (sweep-far (args .n) (args .a) (args .w) (args .rows .now) (c .before .before .before .before .before .before .before .before .before .before .before .before .before .before .before .before .before .before .before .before .before .before .before .before .pre) _ _ (c .before .before .before .before .before .before .before .before .before .before .before .before .before .before .before .before .before .before .make-legs .result) (c .before .before .before .before .before .before .before .before .before .before .before .before .before .before .before .before .before .before .make-legs .ensures) (c .before .before .before .before .before .before .before .before .before .before .before .before .before .before .before .before .before .before .make-legs .result * 4 - 0) (omega arith) (args .stop) (c .before .before .before .before .before .before .before .before .before .before .before .before .before .before .before .before .before .before .before .before .before .if1 .left)) in rw (c .eccentricity-of .ensures) (far-fulfils (lastChecks (rowsOf (args .rows .now)) (args .n) (args .a) (args .w) (takes (args .stop ∷ []) [] (room (args .scratch .now) scratchPlaces ∷ []))) _ _ _ (c .before .before .before .before .before .far-to .result) (last-clear (rowsOf (args .rows .now)) (args .n) (args .a) (args .w) (args .stop ∷ []) (room (args .scratch .now) scratchPlaces ∷ []) (none-of-one (λ l. omega (arith, c .before .before .before .before .before .before .before .before .before .before .before .before .before .before .before .before .before .before .before .before .before .if1 .left))) (none-of-one (λ l. omega (arith, c .before .before .before .before .before .before .before .before .before .before .before .before .before .before .before .before .before .before .before .before .if2 .left)))) (λ z d p. far .nobody z (p .0) d (p .1)) (far .greatest) (scratch-wiped (args .scratch .now) _ (c .before .before .before .before .before .before .before .before .before .before .before .before .before .before .before .before .before .before .before .before .if2 .left) (c .before .before .before .fill .ensures)))
 
 pub own-backward-eccentricity-spec : {M : Type 1} → statement M
 own-backward-eccentricity-spec =
@@ -99,7 +99,7 @@ own-backward-eccentricity-spec =
     part-far-to-start
     part-far-to-end
     far-to-requires
-    wipe-requires
+    fill-requires
     eccentricity-of-requires
     same-length
     returns-3)

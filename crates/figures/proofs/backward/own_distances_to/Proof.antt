@@ -71,8 +71,8 @@ to-target-requires c κs =
     let args = c .before .before .before .before .before .before .before .before .before .before .before .before .before .before .before .before .before .before .before .before .before .args in
     (part-orderly (args .n) (args .a) (args .w) (args .rows .now) (c .before .before .before .before .before .before .before .before .before .before .before .before .before .before .before .before .before .before .before .before .before .pre) _ _ (c .before .before .before .before .before .before .before .before .before .before .before .before .before .make-legs .result) (c .before .before .before .before .before .before .before .before .before .before .before .before .before .make-legs .ensures) (c .before .before .before .before .before .before .before .before .before .before .before .before .before .make-legs .result * 4 - 0) (omega arith), (c .before .before .before .before .before .before .link .ensures, (c .before .before .before .before .before .before .before .before .before .before .before .before .before .before .before .before .before .before .before .before .before .pre .most-stops, c .before .before .before .before .before .before .before .before .before .before .before .before .before .before .before .before .if2 .left)))
 
-wipe-requires : tie.Need-wipe-requires
-wipe-requires c κs = search needs
+fill-requires : tie.Need-fill-requires
+fill-requires c κs = search needs
 
 same-length : tie.Need-same-length
 same-length c = search needs
@@ -83,7 +83,7 @@ same-length-2 c = search needs
 returns-4 : tie.Need-returns-4
 returns-4 c =
     let args = c .before .before .before .before .before .before .before .before .before .before .before .before .before .before .before .before .before .before .before .before .before .before .before .before .before .before .before .before .args in
-    (last-clear (rowsOf (args .rows .now)) (args .n) (args .a) (args .w) (args .target ∷ []) (room (args .out .now) (args .n) ∷ room (args .scratch .now) scratchPlaces ∷ []) (none-of-one (λ l. omega (arith, c .before .before .before .before .before .before .before .before .before .before .before .before .before .before .before .before .before .before .before .before .before .before .before .before .if1 .left))) (none-of-more (λ l. omega (arith, c .before .before .before .before .before .before .before .before .before .before .before .before .before .before .before .before .before .before .before .before .before .before .before .if2 .left)) (none-of-one (λ l. omega (arith, c .before .before .before .before .before .before .before .before .before .before .before .before .before .before .before .before .before .before .before .before .before .before .if3 .left)))), (sweep-fills (args .n) (args .a) (args .w) (args .rows .now) (c .before .before .before .before .before .before .before .before .before .before .before .before .before .before .before .before .before .before .before .before .before .before .before .before .before .before .before .before .pre) _ _ (c .before .before .before .before .before .before .before .before .before .before .before .before .before .before .before .before .before .before .before .before .make-legs .result) (c .before .before .before .before .before .before .before .before .before .before .before .before .before .before .before .before .before .before .before .before .make-legs .ensures) (c .before .before .before .before .before .before .before .before .before .before .before .before .before .before .before .before .before .before .before .before .make-legs .result * 4 - 0) (omega arith) (args .target) (args .out .now) _ (c .before .before .before .before .before .before .before .before .before .before .before .before .before .before .before .before .before .before .before .before .before .before .before .if2 .left) (c .before .before .before .before .before .before .to-target .ensures), scratch-wiped (args .scratch .now) _ (c .before .before .before .before .before .before .before .before .before .before .before .before .before .before .before .before .before .before .before .before .before .before .if3 .left) (c .before .before .wipe .ensures)))
+    (last-clear (rowsOf (args .rows .now)) (args .n) (args .a) (args .w) (args .target ∷ []) (room (args .out .now) (args .n) ∷ room (args .scratch .now) scratchPlaces ∷ []) (none-of-one (λ l. omega (arith, c .before .before .before .before .before .before .before .before .before .before .before .before .before .before .before .before .before .before .before .before .before .before .before .before .if1 .left))) (none-of-more (λ l. omega (arith, c .before .before .before .before .before .before .before .before .before .before .before .before .before .before .before .before .before .before .before .before .before .before .before .if2 .left)) (none-of-one (λ l. omega (arith, c .before .before .before .before .before .before .before .before .before .before .before .before .before .before .before .before .before .before .before .before .before .before .if3 .left)))), (sweep-fills (args .n) (args .a) (args .w) (args .rows .now) (c .before .before .before .before .before .before .before .before .before .before .before .before .before .before .before .before .before .before .before .before .before .before .before .before .before .before .before .before .pre) _ _ (c .before .before .before .before .before .before .before .before .before .before .before .before .before .before .before .before .before .before .before .before .make-legs .result) (c .before .before .before .before .before .before .before .before .before .before .before .before .before .before .before .before .before .before .before .before .make-legs .ensures) (c .before .before .before .before .before .before .before .before .before .before .before .before .before .before .before .before .before .before .before .before .make-legs .result * 4 - 0) (omega arith) (args .target) (args .out .now) _ (c .before .before .before .before .before .before .before .before .before .before .before .before .before .before .before .before .before .before .before .before .before .before .before .if2 .left) (c .before .before .before .before .before .before .to-target .ensures), scratch-wiped (args .scratch .now) _ (c .before .before .before .before .before .before .before .before .before .before .before .before .before .before .before .before .before .before .before .before .before .before .if3 .left) (c .before .before .fill .ensures)))
 
 pub own-distances-to-spec : {M : Type 1} → statement M
 own-distances-to-spec =
@@ -103,7 +103,7 @@ own-distances-to-spec =
     part-to-target-start
     part-to-target-end
     to-target-requires
-    wipe-requires
+    fill-requires
     same-length
     same-length-2
     returns-4)

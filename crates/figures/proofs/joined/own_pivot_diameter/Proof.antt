@@ -42,8 +42,8 @@ search-joined-requires c κs =
     let args = c .before .before .before .before .before .before .before .args in
     let clear = told-fine (check-8 (args .pivots .now) ∷ check-9 (args .n) (args .a) (args .w) (pivotsOf (args .pivots .now)) ∷ []) _ (c .before .before .before .pivots-check .ensures) (c .before .enum-told .given .1) in (c .before .before .before .before .before .before .before .pre, pivots-clear (args .n) (args .a) (args .w) (args .pivots .now) clear)
 
-wipe-requires : tie.Need-wipe-requires
-wipe-requires c κs = search needs
+fill-requires : tie.Need-fill-requires
+fill-requires c κs = search needs
 
 answer-of-requires : tie.Need-answer-of-requires
 answer-of-requires c κs = search needs
@@ -54,7 +54,7 @@ same-length c = search needs
 returns-3 : tie.Need-returns-3
 returns-3 c =
     let args = c .before .before .before .before .before .before .before .before .before .before .before .before .before .args in
-    let clear = told-fine (check-8 (args .pivots .now) ∷ check-9 (args .n) (args .a) (args .w) (pivotsOf (args .pivots .now)) ∷ []) _ (c .before .before .before .before .before .before .before .before .before .pivots-check .ensures) (c .before .before .before .before .before .before .before .enum-told .given .1) in rw (c .answer-of .ensures) (search-fulfils (lastChecks (rowsOf (args .rows .now)) (args .n) (args .a) (args .w) (takes [] (args .pivots .now) (room (args .scratch .now) scratchPlaces ∷ []))) _ _ _ _ (c .before .before .before .before .before .search-joined .result) (pivots-all-clear (rowsOf (args .rows .now)) (args .n) (args .a) (args .w) (args .pivots .now) (room (args .scratch .now) scratchPlaces ∷ []) clear (none-of-one (λ l. omega (arith, c .before .before .before .before .before .before .if1 .left)))) (c .before .before .before .before .before .search-joined .ensures) (scratch-wiped (args .scratch .now) _ (c .before .before .before .before .before .before .if1 .left) (c .before .before .before .wipe .ensures)))
+    let clear = told-fine (check-8 (args .pivots .now) ∷ check-9 (args .n) (args .a) (args .w) (pivotsOf (args .pivots .now)) ∷ []) _ (c .before .before .before .before .before .before .before .before .before .pivots-check .ensures) (c .before .before .before .before .before .before .before .enum-told .given .1) in rw (c .answer-of .ensures) (search-fulfils (lastChecks (rowsOf (args .rows .now)) (args .n) (args .a) (args .w) (takes [] (args .pivots .now) (room (args .scratch .now) scratchPlaces ∷ []))) _ _ _ _ (c .before .before .before .before .before .search-joined .result) (pivots-all-clear (rowsOf (args .rows .now)) (args .n) (args .a) (args .w) (args .pivots .now) (room (args .scratch .now) scratchPlaces ∷ []) clear (none-of-one (λ l. omega (arith, c .before .before .before .before .before .before .if1 .left)))) (c .before .before .before .before .before .search-joined .ensures) (scratch-wiped (args .scratch .now) _ (c .before .before .before .before .before .before .if1 .left) (c .before .before .before .fill .ensures)))
 
 pub own-pivot-diameter-spec : {M : Type 1} → statement M
 own-pivot-diameter-spec =
@@ -66,7 +66,7 @@ own-pivot-diameter-spec =
     enum-told
     returns-2
     search-joined-requires
-    wipe-requires
+    fill-requires
     answer-of-requires
     same-length
     returns-3)

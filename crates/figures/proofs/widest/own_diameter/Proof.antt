@@ -85,8 +85,8 @@ visit-all-requires c κs =
     let args = c .before .before .before .before .before .before .before .before .before .before .before .before .before .before .before .before .before .before .before .before .before .before .before .args in
     (part-orderly (args .n) (args .a) (args .w) (args .rows .now) (c .before .before .before .before .before .before .before .before .before .before .before .before .before .before .before .before .before .before .before .before .before .before .before .pre) _ _ (c .before .before .before .before .before .before .before .before .before .before .before .before .before .before .before .before .before .before .make-legs .result) (c .before .before .before .before .before .before .before .before .before .before .before .before .before .before .before .before .before .before .make-legs .ensures) (c .before .before .before .before .before .before .before .before .before .before .before .before .before .before .before .before .before .before .make-legs .result * 4 - 0) (omega arith), (c .before .before .before .before .before .before .before .before .before .before .before .link .ensures, (c .before .before .before .before .before .before .before .before .before .before .before .before .before .before .before .before .before .before .before .before .before .before .before .pre .most-stops, omega (arith, c .before .before .before .before .before .before .before .before .before .before .before .before .before .before .before .before .before .before .before .before .before .before .before .pre .most-stops, c .before .before .before .before .before .before .before .bounds .kept))))
 
-wipe-requires : tie.Need-wipe-requires
-wipe-requires c κs = search needs
+fill-requires : tie.Need-fill-requires
+fill-requires c κs = search needs
 
 answer-of-requires : tie.Need-answer-of-requires
 answer-of-requires c κs = search needs
@@ -97,7 +97,7 @@ same-length c = search needs
 returns-2 : tie.Need-returns-2
 returns-2 c =
     let args = c .before .before .before .before .before .before .before .before .before .before .before .before .before .before .before .before .before .before .before .before .before .before .before .before .before .before .before .before .before .args in
-    let st = rw (sym (c .before .before .before .before .before .visit-all .ensures)) at (search-right (args .n) (args .a) (args .w) (args .rows .now) (c .before .before .before .before .before .before .before .before .before .before .before .before .before .before .before .before .before .before .before .before .before .before .before .before .before .before .before .before .before .pre) _ _ (c .before .before .before .before .before .before .before .before .before .before .before .before .before .before .before .before .before .before .before .before .before .before .before .before .make-legs .result) (c .before .before .before .before .before .before .before .before .before .before .before .before .before .before .before .before .before .before .before .before .before .before .before .before .make-legs .ensures) (c .before .before .before .before .before .before .before .before .before .before .before .before .before .before .before .before .before .before .before .before .before .before .before .before .make-legs .result * 4 - 0) (omega arith) _ (c .before .before .before .before .before .before .before .before .before .before .before .before .before .bounds .last .1 .1 .0) (c .before .before .before .before .before .before .before .before .before .before .before .before .before .bounds .ensures)) in rw (c .answer-of .ensures) (search-fulfils (lastChecks (rowsOf (args .rows .now)) (args .n) (args .a) (args .w) (takes [] [] (room (args .scratch .now) scratchPlaces ∷ []))) _ _ _ _ (c .before .before .before .before .before .visit-all .result) (last-clear (rowsOf (args .rows .now)) (args .n) (args .a) (args .w) [] (room (args .scratch .now) scratchPlaces ∷ []) none-of-none (none-of-one (λ l. omega (arith, c .before .before .before .before .before .before .before .before .before .before .before .before .before .before .before .before .before .before .before .before .before .before .before .before .before .before .if1 .left)))) st (scratch-wiped (args .scratch .now) _ (c .before .before .before .before .before .before .before .before .before .before .before .before .before .before .before .before .before .before .before .before .before .before .before .before .before .before .if1 .left) (c .before .before .before .wipe .ensures)))
+    let st = rw (sym (c .before .before .before .before .before .visit-all .ensures)) at (search-right (args .n) (args .a) (args .w) (args .rows .now) (c .before .before .before .before .before .before .before .before .before .before .before .before .before .before .before .before .before .before .before .before .before .before .before .before .before .before .before .before .before .pre) _ _ (c .before .before .before .before .before .before .before .before .before .before .before .before .before .before .before .before .before .before .before .before .before .before .before .before .make-legs .result) (c .before .before .before .before .before .before .before .before .before .before .before .before .before .before .before .before .before .before .before .before .before .before .before .before .make-legs .ensures) (c .before .before .before .before .before .before .before .before .before .before .before .before .before .before .before .before .before .before .before .before .before .before .before .before .make-legs .result * 4 - 0) (omega arith) _ (c .before .before .before .before .before .before .before .before .before .before .before .before .before .bounds .last .1 .1 .0) (c .before .before .before .before .before .before .before .before .before .before .before .before .before .bounds .ensures)) in rw (c .answer-of .ensures) (search-fulfils (lastChecks (rowsOf (args .rows .now)) (args .n) (args .a) (args .w) (takes [] [] (room (args .scratch .now) scratchPlaces ∷ []))) _ _ _ _ (c .before .before .before .before .before .visit-all .result) (last-clear (rowsOf (args .rows .now)) (args .n) (args .a) (args .w) [] (room (args .scratch .now) scratchPlaces ∷ []) none-of-none (none-of-one (λ l. omega (arith, c .before .before .before .before .before .before .before .before .before .before .before .before .before .before .before .before .before .before .before .before .before .before .before .before .before .before .if1 .left)))) st (scratch-wiped (args .scratch .now) _ (c .before .before .before .before .before .before .before .before .before .before .before .before .before .before .before .before .before .before .before .before .before .before .before .before .before .before .if1 .left) (c .before .before .before .fill .ensures)))
 
 pub own-diameter-spec : {M : Type 1} → statement M
 own-diameter-spec =
@@ -121,7 +121,7 @@ own-diameter-spec =
     part-visit-all-end
     slice-aggregate-visit-all
     visit-all-requires
-    wipe-requires
+    fill-requires
     answer-of-requires
     same-length
     returns-2)

@@ -1,4 +1,4 @@
--- The places are cleared; then the source is stored.
+-- The places are filled with nowhere; then the source is stored.
 use mathlib.Core.Path.{_∙_, ap}
 use Prim.Native.Nat.{ℕ}
 use mathlib.Core.List.{List}
@@ -10,8 +10,8 @@ use borrow.Author.Needs.{needs}
 use Rattle.passes.proofs.forward.begin.Statement.{statement}
 use Rattle.passes.proofs.forward.begin.Tie as tie
 
-clear-requires : tie.Need-clear-requires
-clear-requires c κs = search needs
+fill-requires : tie.Need-fill-requires
+fill-requires c κs = search needs
 
 mul-out : tie.Need-mul-out
 mul-out c = search needs
@@ -26,7 +26,7 @@ returns : tie.Need-returns
 unfolding init
 returns c =
     let args = c .before .before .before .before .before .args in
-    let a = args in ap (λ (o : List ℕ). set o (a .source) (a .since)) (c .before .before .clear .ensures) ∙ set-append-left (replicate (a .n) nowhere) (drop (a .n) (a .out .now)) (a .source) (a .since) (omega (arith, length-replicate (a .n) nowhere))
+    let a = args in ap (λ (o : List ℕ). set o (a .source) (a .since)) (c .before .before .fill .ensures) ∙ set-append-left (replicate (a .n) nowhere) (drop (a .n) (a .out .now)) (a .source) (a .since) (omega (arith, length-replicate (a .n) nowhere))
 
 pub begin-spec : {M : Type 1} → statement M
-begin-spec = tie.close (tie.spec clear-requires mul-out slice-write-out same-length returns)
+begin-spec = tie.close (tie.spec fill-requires mul-out slice-write-out same-length returns)

@@ -10,8 +10,8 @@ use Rattle.passes.specs.Reach.{reachInit}
 use Rattle.passes.proofs.reach.begin_back.Statement.{statement}
 use Rattle.passes.proofs.reach.begin_back.Tie as tie
 
-wipe-requires : tie.Need-wipe-requires
-wipe-requires c κs = search needs
+fill-requires : tie.Need-fill-requires
+fill-requires c κs = search needs
 
 add-out : tie.Need-add-out
 add-out c = search needs
@@ -27,8 +27,8 @@ same-length c = search needs
 
 returns : tie.Need-returns
 unfolding reachInit
-returns c = let args = c .before .before .before .before .before .args in ap (λ (o : List ℕ). set o (args .stop) (args .by + 1)) (c .before .before .wipe .ensures) ∙ set-append-left (replicate (args .n) 0) (drop (args .n) (args .out .now)) (args .stop) (args .by + 1) (omega (arith, length-replicate {A = ℕ} (args .n) 0))
+returns c = let args = c .before .before .before .before .before .args in ap (λ (o : List ℕ). set o (args .stop) (args .by + 1)) (c .before .before .fill .ensures) ∙ set-append-left (replicate (args .n) 0) (drop (args .n) (args .out .now)) (args .stop) (args .by + 1) (omega (arith, length-replicate {A = ℕ} (args .n) 0))
 
 pub begin-back-spec : {M : Type 1} → statement M
 begin-back-spec =
-    tie.close (tie.spec wipe-requires add-out mul-out slice-write-out same-length returns)
+    tie.close (tie.spec fill-requires add-out mul-out slice-write-out same-length returns)

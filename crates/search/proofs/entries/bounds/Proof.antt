@@ -16,8 +16,8 @@ Inv-loop legs n out₀ m j₀ out j = Entering n legs out₀ m out j
 abbrev μ-loop : tie.MeasureT-loop
 μ-loop legs n out₀ m j₀ out j = m - j
 
-clear-requires : tie.Need-clear-requires Inv-loop μ-loop
-clear-requires c κs = search needs
+fill-requires : tie.Need-fill-requires Inv-loop μ-loop
+fill-requires c κs = search needs
 
 loop-holds : tie.Need-loop-holds Inv-loop μ-loop
 loop-holds c =
@@ -48,7 +48,7 @@ shared-slice-read-enter-2 c = search needs
 enter-requires : tie.Need-enter-requires Inv-loop μ-loop
 enter-requires c κs =
     let s = next-leg-sound (c .before .before .before .before .loop .inv) (c .before .before .before .loop-test .taken) in
-    omega (arith, s .to-below, c .before .before .before .before .loop .inv .long, c .before .before .before .before .before .before .before .clear .kept .0, c .before .before .before .before .before .before .before .before .before .before .before .pre .0)
+    omega (arith, s .to-below, c .before .before .before .before .loop .inv .long, c .before .before .before .before .before .before .before .fill .kept .0, c .before .before .before .before .before .before .before .before .before .before .before .pre .0)
 
 add-j : tie.Need-add-j Inv-loop μ-loop
 add-j c = search needs
@@ -62,13 +62,13 @@ loop-again c =
     enter-more (loop .inv) (c .before .before .before .before .before .before .loop-test .taken) (c .before .before .enter .ensures)
 
 same-length : tie.Need-same-length Inv-loop μ-loop
-same-length c = c .before .loop .inv .long ∙ c .before .before .before .before .clear .kept .0
+same-length c = c .before .loop .inv .long ∙ c .before .before .before .before .fill .kept .0
 
 returns : tie.Need-returns Inv-loop μ-loop
 returns c =
     let args = c .before .before .before .before .before .before .before .before .args in
     let legs = legsIn (args .legs .now) in
-    enter-end (c .before .loop .inv) (c .loop-test .left) ∙ (ap (enteredBy legs) (c .before .before .before .before .clear .ensures) ∙ bounds-append (args .n) legs (drop (args .n) (args .out .now)) (c .before .before .before .before .before .before .before .before .pre .1))
+    enter-end (c .before .loop .inv) (c .loop-test .left) ∙ (ap (enteredBy legs) (c .before .before .before .before .fill .ensures) ∙ bounds-append (args .n) legs (drop (args .n) (args .out .now)) (c .before .before .before .before .before .before .before .before .pre .1))
 
 pub bounds-spec : {M : Type 1} → statement M
 bounds-spec =
@@ -76,7 +76,7 @@ bounds-spec =
     (tie.spec
     Inv-loop
     μ-loop
-    clear-requires
+    fill-requires
     loop-holds
     mul-at
     add-enter

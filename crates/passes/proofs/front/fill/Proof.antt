@@ -1,4 +1,4 @@
--- The loop: the places passed hold no arrival, and the rest is as it was.
+-- The loop: the places passed hold x, and the rest is kept.
 use Prim.Native.Nat.{ℕ, _-_, _≤_, _<_}
 use native.Mathlib.Omega.{arith}
 use mathlib.Core.Path.{_≡_, refl, ap, _∙_}
@@ -6,18 +6,17 @@ use mathlib.Core.List.{List, _++_}
 use lib.ListN.{length, set, drop, replicate, length-set}
 use borrow.Author.Needs.{needs}
 use borrow.Author.Fill.{fill-none, fill-more}
-use Rattle.passes.specs.Forward.{nowhere}
-use Rattle.passes.proofs.forward.clear.Statement.{statement}
-use Rattle.passes.proofs.forward.clear.Tie as tie
+use Rattle.passes.proofs.front.fill.Statement.{statement}
+use Rattle.passes.proofs.front.fill.Tie as tie
 
 abbrev Inv-loop : tie.InvT-loop
-Inv-loop out₀ n v₀ out v = (v ≤ n) × ((length out ≡ length out₀) × (out ≡ replicate v nowhere ++ drop v out₀))
+Inv-loop out₀ n x v₀ out v = (v ≤ n) × ((length out ≡ length out₀) × (out ≡ replicate v x ++ drop v out₀))
 
 abbrev μ-loop : tie.MeasureT-loop
-μ-loop out₀ n v₀ out v = n - v
+μ-loop out₀ n x v₀ out v = n - v
 
 loop-holds : tie.Need-loop-holds Inv-loop μ-loop
-loop-holds c = (omega arith, (refl, fill-none (c .args .out .now) nowhere))
+loop-holds c = (omega arith, (refl, fill-none (c .args .out .now) (c .args .x)))
 
 mul-out : tie.Need-mul-out Inv-loop μ-loop
 mul-out c = search needs
@@ -36,7 +35,7 @@ loop-again c =
     let args = c .before .before .args in
     let loop = c .before .loop in
     let inside : loop .v < length (args .out .now) = omega arith in
-    (omega arith, (simp length-set (loop .inv .1 .0), ap (λ (l : List ℕ). set l (loop .v) nowhere) (loop .inv .1 .1) ∙ fill-more (loop .v) nowhere (args .out .now) inside))
+    (omega arith, (simp length-set (loop .inv .1 .0), ap (λ (l : List ℕ). set l (loop .v) (args .x)) (loop .inv .1 .1) ∙ fill-more (loop .v) (args .x) (args .out .now) inside))
 
 same-length : tie.Need-same-length Inv-loop μ-loop
 same-length c = c .before .loop .inv .1 .0
@@ -46,8 +45,8 @@ returns c =
     let loop = c .before .loop in
     let e : loop .v ≡ c .before .before .args .n = omega arith in rw e at (loop .inv .1 .1)
 
-pub clear-spec : {M : Type 1} → statement M
-clear-spec =
+pub fill-spec : {M : Type 1} → statement M
+fill-spec =
     tie.close
     (tie.spec
     Inv-loop
