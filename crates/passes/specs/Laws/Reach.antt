@@ -32,7 +32,7 @@ reached-back-length (r ∷ rs) st = caught-by-length (reachedBack rs st) _ _ _ _
 
 pub reach-init-long : (by stop n : ℕ) → length (reachInit by stop n) ≡ n
 unfolding reachInit
-reach-init-long by stop n = length-set (replicate n 0) stop (by + 1) ∙ length-replicate {A = ℕ} n 0
+reach-init-long by stop n = length-set (replicate n 0) stop _ ∙ length-replicate {A = ℕ} n 0
 
 caught-append : (st t : List ℕ) (f u s a : ℕ) → f < length st → u < length st → caughtBy (st ++ t) f u s a ≡ caughtBy st f u s a ++ t
 caught-append st t f u s a fl ul =
@@ -112,6 +112,12 @@ module _ (n p by : ℕ) (pn : p < n) where
   state-long : (rs : List Row) → length (backOf n p by rs) ≡ n
   state-long rs = reached-back-length rs (reachInit by p n) ∙ reach-init-long by p n
 
+  -- the pivot's own stop stays in time
+  own-stop : (rs : List Row) → Good n rs → by + 1 ≤ getD (backOf n p by rs) p 0
+  unfolding reachedBack reachInit
+  own-stop [] g = omega (arith, getD-set-same (replicate n 0) p (by + 1) 0 (omega (arith, length-replicate {A = ℕ} n 0)))
+  own-stop (r ∷ rs) (good-more s up g) = omega (arith, own-stop rs g, caught-le r (backOf n p by rs) (omega (arith, s .from-below, state-long rs)) p)
+
   init-back : (u : ℕ) → Back [] p by u (getD (reachInit by p n) u 0)
   unfolding reachInit
   init-back u = go (ℕ-discrete u p)
@@ -139,12 +145,6 @@ module _ (n p by : ℕ) (pn : p < n) where
       go : {y : ℕ} → Caught r (backOf n p by rs) u y → Back rs p by u (getD (backOf n p by rs) u 0) → Back rs p by (r .to) (getD (backOf n p by rs) (r .to) 0) → Back (r ∷ rs) p by u y
       go kept here there = later here
       go (new e h) here there = lead there e h
-
-  -- the pivot's own stop stays in time
-  own-stop : (rs : List Row) → Good n rs → by + 1 ≤ getD (backOf n p by rs) p 0
-  unfolding reachedBack reachInit
-  own-stop [] g = omega (arith, getD-set-same (replicate n 0) p (by + 1) 0 (omega (arith, length-replicate {A = ℕ} n 0)))
-  own-stop (r ∷ rs) (good-more s up g) = omega (arith, own-stop rs g, caught-le r (backOf n p by rs) (omega (arith, s .from-below, state-long rs)) p)
 
   pub reach-complete : (rs : List Row) → Good n rs → (f l : Row) → Route (rowsDay rs) f l → l .to ≡ p → arrival l ≤ by → f .start + 1 ≤ getD (backOf n p by rs) (f .from) 0
   unfolding reachedBack
