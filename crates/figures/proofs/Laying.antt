@@ -5,7 +5,7 @@ use mathlib.Core.Path.{_≡_, refl, sym, ap, _∙_, subst}
 use mathlib.Core.List.{List, _++_}
 use lib.ListN.{length, getD, take, drop, replicate, length-take, length-replicate, getD-replicate}
 use lib.Seq.{take-at}
-use Rattle.rules.specs.Day.{mostRows, rowWidth, Row, rowsOf}
+use Rattle.rules.specs.Day.{mostStops, mostRows, rowWidth, Row, rowsOf}
 use Rattle.rules.specs.Diameter.{LatestEntry}
 use Rattle.rules.specs.Lent.{Fills, scratchPlaces, Wiped, Stands, Copied}
 use Rattle.rules.specs.Laws.Good.{Good, good-sound}
@@ -14,7 +14,7 @@ use Rattle.rules.specs.Laws.Written.{copied-front}
 use Rattle.rules.specs.Laws.Filled.{fills-front}
 use Rattle.passes.specs.Legs.{legWidth, legsOf, legNumbers, legNumbersOf, legsIn, Laid}
 use Rattle.passes.specs.Forward.{init, passed, stretches, stretchOf}
-use Rattle.passes.specs.Links.{Orderly}
+use Rattle.passes.specs.Links.{Orderly, Linked}
 use Rattle.passes.specs.Backward.{distancesTo}
 use Rattle.passes.specs.Laws.Links.{good-for-more}
 use Rattle.passes.specs.Laws.Backward.{length-distances, distances-right}
@@ -34,7 +34,7 @@ use Rattle.search.specs.Laws.Searched.{diameter-searched}
 use Rattle.search.specs.Laws.Farthest.{farthest-is-far, distances-told, forward-told}
 use Rattle.search.specs.Laws.Bounded.{pair-positive}
 use Rattle.figures.specs.Answered.{farIn}
-use Rattle.figures.specs.Parts.{Ready, Stretched}
+use Rattle.figures.specs.Parts.{Ready, LegsLaid, Stretched}
 
 -- the part that was written
 pub front-part : (ds rest out : List ℕ) (n end : ℕ) → end ≡ n → length ds ≡ n → out ≡ ds ++ rest → take end out ≡ ds
@@ -45,6 +45,16 @@ pub scratch-wiped : (old new : List ℕ) → scratchPlaces ≤ length old → ne
 scratch-wiped old new l e =
     subst (Wiped old) (sym e)
     (fills-front scratchPlaces (λ place number. number ≡ 0) (replicate scratchPlaces 0) old (length-replicate {A = ℕ} scratchPlaces 0) l (λ i il. getD-replicate {A = ℕ} scratchPlaces i 0 0 il))
+
+-- rows between n stops are rows between 256
+pub ready-for-all : {n A W : ℕ} {rows : List ℕ} → Ready n A W rows → Ready mostStops A W rows
+ready-for-all r =
+    record { good = good-for-more (r .most-stops) (r .good); some-stop = omega arith; most-stops = omega arith; few = r .few; in-order = r .in-order; in-day = r .in-day }
+
+-- the links are those of the part of the room that holds the legs
+pub laid-linked : {A W end : ℕ} {rs : List Row} {old legs head next follow : List ℕ} → LegsLaid A W rs old end legs head next follow → (part : ℕ) → part ≡ end
+    → Linked (take part legs) 0 head next follow
+laid-linked {legs = legs} {head = head} {next = next} {follow = follow} laid part e = subst (λ (k : ℕ). Linked (take k legs) 0 head next follow) (sym e) (laid .linked)
 
 -- legs in the front of a room, and the part of the room that holds them
 module _ (n A W : ℕ) (rows : List ℕ) (r : Ready n A W rows) (old legs : List ℕ) (m : ℕ) (copied : Copied legWidth legNumbers (legsOf A W (rowsOf rows)) old m legs) where

@@ -2,7 +2,7 @@
 use Prim.Native.Nat.{ℕ, _+_, _*_, _/_, _≤_, _<_}
 use mathlib.Core.Path.{_≡_}
 use mathlib.Core.List.{List, [], _∷_}
-use lib.ListN.{length}
+use lib.ListN.{length, take}
 use Rattle.rules.specs.Clock.{horizon}
 use Rattle.rules.specs.Day.{mostStops, mostRows, rowWidth, Row, rowsOf, Ask, asker's-rows}
 use Rattle.rules.specs.Pivots.{pivotsOf}
@@ -10,6 +10,8 @@ use Rattle.rules.specs.Struck.{numbers}
 use Rattle.rules.specs.Lent.{Stands, Copied}
 use Rattle.rules.specs.Table.{Check, Takes, check-1, check-2, check-3, check-4, check-5, check-6, check-7, check-8, check-9, check-10, check-12, Clear, Refuses}
 use Rattle.rules.specs.Laws.Good.{Good}
+use Rattle.passes.specs.Legs.{legWidth, legNumbers, legsOf}
+use Rattle.passes.specs.Links.{Linked}
 use Rattle.passes.specs.Laws.Chains.{rowsDay}
 use Rattle.figures.specs.declared.ask.Prepared.{Prepared}
 use Rattle.figures.specs.declared.ask.Prepared.the-variants as prepared
@@ -50,6 +52,14 @@ pub record Ready (n A W : ℕ) (rows : List ℕ) : Type 0 where
 abbrev pub Prepares : Ask → (old : List ℕ) → Prepared → (new : List ℕ) → Type 0
 Prepares q old (prepared.Rows k) new = Clear (firstChecks q) × Copied rowWidth numbers (asker's-rows q) old k new
 Prepares q old (prepared.Refused number place) new = Refuses (firstChecks q) number place
+
+-- the legs of some rows stand in the front of a room, up to `end`, and are linked
+pub record LegsLaid (A W : ℕ) (rs : List Row) (old : List ℕ) (end : ℕ) (legs head next follow : List ℕ) : Type 0 where
+  pub count : ℕ
+  pub copied : Copied legWidth legNumbers (legsOf A W rs) old count legs
+  pub ends : end ≡ count * legWidth
+  pub within : end ≤ length legs
+  pub linked : Linked (take end legs) 0 head next follow
 
 -- each source u has its own stretch of the table, from place u × n
 abbrev pub Stretched : List Row → (n A W : ℕ) → (place number : ℕ) → Type 0

@@ -14,13 +14,10 @@ use crate::answers::eccentricity_of;
 use crate::ask::Prepared;
 use crate::ask::prepare;
 use crate::checks::SCRATCH;
+use crate::lay::lay_legs;
 use crate::visits::far_to;
-use clock::Reading;
 use day::ROW_WIDTH;
-use passes::LEG_WIDTH;
 use passes::fill;
-use passes::link;
-use passes::make_legs;
 use passes::to_target;
 
 // Over own rows: the distances to a target.
@@ -36,32 +33,22 @@ fn own_distances_to(
     requires { ⌜ Ready n a w (now rows) ⌝ }
     ensures { λ r. ⌜ Fulfils (lastChecks (rowsOf (now (rows .entry))) n a w (takes (target ∷ []) [] (room (now (out .entry)) n ∷ room (now (scratch .entry)) scratchPlaces ∷ []))) (Fills n (λ u. Stands (rowsDay (rowsOf (now (rows .entry)))) a w u target) (now (out .entry)) (now (out .exit)) × Wiped (now (scratch .entry)) (now (scratch .exit))) ((now (out .exit) ≡ now (out .entry)) × (now (scratch .exit) ≡ now (scratch .entry))) r ⌝ }
 {
+    let place = 0;
     if target >= n {
-        return Filled::Refused {
-            number: 7,
-            place: 0,
-        };
+        return Filled::Refused { number: 7, place };
     }
     let stops = n as usize;
     if out.len() < stops {
-        return Filled::Refused {
-            number: 10,
-            place: 0,
-        };
+        return Filled::Refused { number: 10, place };
     }
     if scratch.len() < SCRATCH {
-        return Filled::Refused {
-            number: 10,
-            place: 0,
-        };
+        return Filled::Refused { number: 10, place };
     }
     let mut legs = [0u32; 8192];
-    let m = make_legs(rows, Reading(a), Reading(w), &mut legs);
-    let end = m * LEG_WIDTH;
     let mut head = [0u32; 256];
     let mut next = [0u32; 2049];
     let mut follow = [0u32; 2049];
-    link(&legs[0..end], &mut head, &mut next, &mut follow);
+    let end = lay_legs(rows, a, w, &mut legs, &mut head, &mut next, &mut follow);
     to_target(&legs[0..end], &head, &next, &follow, target, stops, out);
     fill(scratch, SCRATCH, 0);
     Filled::Done
@@ -116,12 +103,10 @@ fn own_backward_eccentricity(
         };
     }
     let mut legs = [0u32; 8192];
-    let m = make_legs(rows, Reading(a), Reading(w), &mut legs);
-    let end = m * LEG_WIDTH;
     let mut head = [0u32; 256];
     let mut next = [0u32; 2049];
     let mut follow = [0u32; 2049];
-    link(&legs[0..end], &mut head, &mut next, &mut follow);
+    let end = lay_legs(rows, a, w, &mut legs, &mut head, &mut next, &mut follow);
     let far = far_to(&legs[0..end], &head, &next, &follow, stop, n as usize);
     fill(scratch, SCRATCH, 0);
     eccentricity_of(far)

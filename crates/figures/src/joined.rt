@@ -17,17 +17,14 @@ use crate::answers::answer_of;
 use crate::ask::Prepared;
 use crate::ask::prepare;
 use crate::checks::SCRATCH;
+use crate::lay::lay_legs;
 use crate::lay::lay_pivots;
 use crate::pivots::PIVOT_WIDTH;
 use crate::pivots::pivots_check;
 use crate::visits::visit_joined;
-use clock::Reading;
 use day::ROW_WIDTH;
 use day::Verdict;
-use passes::LEG_WIDTH;
 use passes::fill;
-use passes::link;
-use passes::make_legs;
 use search::Search;
 use search::pivot_bounds;
 
@@ -39,12 +36,10 @@ fn search_joined(rows: &[u32], n: u32, a: u32, w: u32, pivots: &[u32]) -> Search
 {
     let stops = n as usize;
     let mut legs = [0u32; 8192];
-    let m = make_legs(rows, Reading(a), Reading(w), &mut legs);
-    let end = m * LEG_WIDTH;
     let mut head = [0u32; 256];
     let mut next = [0u32; 2049];
     let mut follow = [0u32; 2049];
-    link(&legs[0..end], &mut head, &mut next, &mut follow);
+    let end = lay_legs(rows, a, w, &mut legs, &mut head, &mut next, &mut follow);
     let mut onward = [0u32; 4096];
     let mut into = [0u32; 4096];
     lay_pivots(&legs[0..end], pivots, stops, a, &mut onward, &mut into);

@@ -1,20 +1,46 @@
-// The numbers of pivots, one pivot after another: onward from each pivot, and into it.
+// What an ask lays out: the legs with their links, and the numbers of pivots, one pivot after another, onward from each and into it.
 ghost use mathlib.Core.Path.{_≡_};
-ghost use Prim.Native.Nat.{_+_, _/_, _≤_, _<_};
+ghost use Prim.Native.Nat.{_+_, _*_, _/_, _≤_, _<_};
 ghost use lib.ListN.{length};
 ghost use Rattle.rules.specs.Clock.{horizon};
-ghost use Rattle.rules.specs.Day.{mostStops};
+ghost use Rattle.rules.specs.Day.{mostStops, mostRows, rowsOf};
 ghost use Rattle.rules.specs.Pivots.{mostPivots, pivotsOf};
-ghost use Rattle.passes.specs.Legs.{legsIn, Laid};
+ghost use Rattle.passes.specs.Legs.{legWidth, legsIn, Laid};
+ghost use Rattle.passes.specs.Links.{linkPlaces};
 ghost use Rattle.passes.specs.Forward.{init, passed};
 ghost use Rattle.passes.specs.Reach.{reachInit, reachedBack};
 ghost use Rattle.passes.specs.Pivots.{onwardPivot, intoPivot};
 ghost use Rattle.search.specs.Pivots.{allPlaces, LaidOut};
+ghost use Rattle.figures.specs.Parts.{Ready, LegsLaid};
 ghost use Rattle.figures.specs.Pivots.{pivotWidth, AllSit, putAt};
 use crate::pivots::PIVOT_WIDTH;
+use clock::Reading;
+use passes::LEG_WIDTH;
 use passes::forward_pass;
+use passes::link;
+use passes::make_legs;
 use passes::reach_back;
 use search::PIVOT_PLACES;
+
+// The legs of own rows in the front of `legs`, with their links; answers where the legs end.
+pub fn lay_legs(
+    rows: &[u32],
+    a: u32,
+    w: u32,
+    legs: &mut [u32],
+    head: &mut [u32; 256],
+    next: &mut [u32; 2049],
+    follow: &mut [u32; 2049],
+) -> usize
+    requires { ⌜ Ready mostStops a w (now rows) × (mostRows * legWidth ≤ length (now legs)) ⌝ }
+    requires { ⌜ (length (now next) ≡ linkPlaces) × (length (now follow) ≡ linkPlaces) ⌝ }
+    ensures { λ end. ⌜ LegsLaid a w (rowsOf (now (rows .entry))) (now (legs .entry)) end (now (legs .exit)) (now (head .exit)) (now (next .exit)) (now (follow .exit)) ⌝ }
+{
+    let m = make_legs(rows, Reading(a), Reading(w), legs);
+    let end = m * LEG_WIDTH;
+    link(&legs[0..end], head, next, follow);
+    end
+}
 
 // One pivot's numbers, from place `at` on. Its reading comes as a length since A.
 fn lay_pivot(

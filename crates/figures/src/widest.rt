@@ -13,13 +13,10 @@ use crate::answers::answer_of;
 use crate::ask::Prepared;
 use crate::ask::prepare;
 use crate::checks::SCRATCH;
+use crate::lay::lay_legs;
 use crate::visits::visit_all;
-use clock::Reading;
 use day::ROW_WIDTH;
-use passes::LEG_WIDTH;
 use passes::fill;
-use passes::link;
-use passes::make_legs;
 use search::bounds;
 
 // Over own rows: the diameter.
@@ -35,12 +32,10 @@ fn own_diameter(rows: &[u32], n: u32, a: u32, w: u32, scratch: &mut [u32]) -> An
     }
     let stops = n as usize;
     let mut legs = [0u32; 8192];
-    let m = make_legs(rows, Reading(a), Reading(w), &mut legs);
-    let end = m * LEG_WIDTH;
     let mut head = [0u32; 256];
     let mut next = [0u32; 2049];
     let mut follow = [0u32; 2049];
-    link(&legs[0..end], &mut head, &mut next, &mut follow);
+    let end = lay_legs(rows, a, w, &mut legs, &mut head, &mut next, &mut follow);
     let mut entered = [0u32; 256];
     bounds(&legs[0..end], stops, &mut entered);
     let st = visit_all(&legs[0..end], &head, &next, &follow, &entered, stops);

@@ -1,40 +1,19 @@
 -- The parts laid side by side: legs, their links, the pivots, the bounds under them, then the visits.
-use Prim.Native.Nat.{_*_, _-_}
+use Prim.Native.Nat.{_-_}
 use native.Mathlib.Omega.{arith}
 use mathlib.Core.Path.{refl}
-use Rattle.figures.proofs.Laying.{legs-few, part-orderly, part-laid, part-read}
+use Rattle.figures.proofs.Laying.{part-orderly, part-laid, part-read, ready-for-all, laid-linked}
 use Rattle.figures.proofs.Joining.{joined-right}
 use Rattle.figures.proofs.Pivoting.{length-pivots, sit-in-day}
 use borrow.Author.Needs.{needs}
 use Rattle.figures.proofs.joined.search_joined.Statement.{statement}
 use Rattle.figures.proofs.joined.search_joined.Tie as tie
 
-slice-aggregate-make-legs : tie.Need-slice-aggregate-make-legs
-slice-aggregate-make-legs c = search needs
+slice-aggregate-lay-legs : tie.Need-slice-aggregate-lay-legs
+slice-aggregate-lay-legs c = search needs
 
-make-legs-requires : tie.Need-make-legs-requires
-make-legs-requires c κs = search needs
-
-mul-end : tie.Need-mul-end
-mul-end c =
-    let args = c .before .before .before .before .before .args in
-    omega (arith, legs-few (args .n) (args .a) (args .w) (args .rows .now) (c .before .before .before .before .before .pre .0) _ _ (c .before .make-legs .result) (c .before .make-legs .ensures))
-
-sub-link : tie.Need-sub-link
-sub-link c = search needs
-
-part-link-start : tie.Need-part-link-start
-part-link-start c = search needs
-
-part-link-end : tie.Need-part-link-end
-part-link-end c =
-    let args = c .before .before .before .before .before .before .args in
-    omega (arith, legs-few (args .n) (args .a) (args .w) (args .rows .now) (c .before .before .before .before .before .before .pre .0) _ _ (c .before .before .make-legs .result) (c .before .before .make-legs .ensures), c .before .before .make-legs .kept)
-
-link-requires : tie.Need-link-requires
-link-requires c κs =
-    let args = c .before .before .before .before .before .before .before .before .before .before .args in
-    (part-orderly (args .n) (args .a) (args .w) (args .rows .now) (c .before .before .before .before .before .before .before .before .before .before .pre .0) _ _ (c .before .before .before .before .before .before .make-legs .result) (c .before .before .before .before .before .before .make-legs .ensures) (c .before .before .before .before .before .before .make-legs .result * 4 - 0) (omega arith), (refl, refl))
+lay-legs-requires : tie.Need-lay-legs-requires
+lay-legs-requires c κs = ((ready-for-all (c .before .before .before .before .before .before .pre .0), omega arith), (refl, refl))
 
 sub-lay-pivots : tie.Need-sub-lay-pivots
 sub-lay-pivots c = search needs
@@ -43,9 +22,7 @@ part-lay-pivots-start : tie.Need-part-lay-pivots-start
 part-lay-pivots-start c = search needs
 
 part-lay-pivots-end : tie.Need-part-lay-pivots-end
-part-lay-pivots-end c =
-    let args = c .before .before .before .before .before .before .before .before .before .before .before .before .args in
-    omega (arith, legs-few (args .n) (args .a) (args .w) (args .rows .now) (c .before .before .before .before .before .before .before .before .before .before .before .before .pre .0) _ _ (c .before .before .before .before .before .before .before .before .make-legs .result) (c .before .before .before .before .before .before .before .before .make-legs .ensures), c .before .before .before .before .before .before .before .before .make-legs .kept)
+part-lay-pivots-end c = omega (arith, c .before .before .lay-legs .ensures .within)
 
 slice-aggregate-lay-pivots : tie.Need-slice-aggregate-lay-pivots
 slice-aggregate-lay-pivots c = search needs
@@ -55,8 +32,8 @@ slice-aggregate-lay-pivots-2 c = search needs
 
 lay-pivots-requires : tie.Need-lay-pivots-requires
 lay-pivots-requires c κs =
-    let args = c .before .before .before .before .before .before .before .before .before .before .before .before .before .before .before .args in
-    ((c .before .before .before .before .before .before .before .before .before .before .before .before .before .before .before .pre .0 .most-stops, part-laid (args .n) (args .a) (args .w) (args .rows .now) (c .before .before .before .before .before .before .before .before .before .before .before .before .before .before .before .pre .0) _ _ (c .before .before .before .before .before .before .before .before .before .before .before .make-legs .result) (c .before .before .before .before .before .before .before .before .before .before .before .make-legs .ensures) (c .before .before .before .before .before .before .before .before .before .before .before .make-legs .result * 4 - 0) (omega arith)), ((c .before .before .before .before .before .before .before .before .before .before .before .before .before .before .before .pre .1 .0, sit-in-day (args .n) (args .a) (args .w) (args .pivots .now) (c .before .before .before .before .before .before .before .before .before .before .before .before .before .before .before .pre .0 .in-day) (c .before .before .before .before .before .before .before .before .before .before .before .before .before .before .before .pre .1 .1)), (omega arith, omega arith)))
+    let args = c .before .before .before .before .before .before .before .before .before .before .before .before .args in
+    ((c .before .before .before .before .before .before .before .before .before .before .before .before .pre .0 .most-stops, part-laid (args .n) (args .a) (args .w) (args .rows .now) (c .before .before .before .before .before .before .before .before .before .before .before .before .pre .0) _ _ (c .before .before .before .before .before .lay-legs .ensures .count) (c .before .before .before .before .before .lay-legs .ensures .copied) (c .before .before .before .before .before .lay-legs .result - 0) (omega (arith, c .before .before .before .before .before .lay-legs .ensures .ends))), ((c .before .before .before .before .before .before .before .before .before .before .before .before .pre .1 .0, sit-in-day (args .n) (args .a) (args .w) (args .pivots .now) (c .before .before .before .before .before .before .before .before .before .before .before .before .pre .0 .in-day) (c .before .before .before .before .before .before .before .before .before .before .before .before .pre .1 .1)), (omega arith, omega arith)))
 
 slice-aggregate-pivot-bounds : tie.Need-slice-aggregate-pivot-bounds
 slice-aggregate-pivot-bounds c = search needs
@@ -74,9 +51,7 @@ part-visit-joined-start : tie.Need-part-visit-joined-start
 part-visit-joined-start c = search needs
 
 part-visit-joined-end : tie.Need-part-visit-joined-end
-part-visit-joined-end c =
-    let args = c .before .before .before .before .before .before .before .before .before .before .before .before .before .before .before .before .before .before .before .before .before .before .before .args in
-    omega (arith, legs-few (args .n) (args .a) (args .w) (args .rows .now) (c .before .before .before .before .before .before .before .before .before .before .before .before .before .before .before .before .before .before .before .before .before .before .before .pre .0) _ _ (c .before .before .before .before .before .before .before .before .before .before .before .before .before .before .before .before .before .before .before .make-legs .result) (c .before .before .before .before .before .before .before .before .before .before .before .before .before .before .before .before .before .before .before .make-legs .ensures), c .before .before .before .before .before .before .before .before .before .before .before .before .before .before .before .before .before .before .before .make-legs .kept)
+part-visit-joined-end c = omega (arith, c .before .before .before .before .before .before .before .before .before .before .before .before .before .lay-legs .ensures .within)
 
 slice-aggregate-visit-joined : tie.Need-slice-aggregate-visit-joined
 slice-aggregate-visit-joined c = search needs
@@ -89,25 +64,20 @@ slice-aggregate-visit-joined-3 c = search needs
 
 visit-joined-requires : tie.Need-visit-joined-requires
 visit-joined-requires c κs =
-    let args = c .before .before .before .before .before .before .before .before .before .before .before .before .before .before .before .before .before .before .before .before .before .before .before .before .before .before .before .before .before .before .args in
-    (part-orderly (args .n) (args .a) (args .w) (args .rows .now) (c .before .before .before .before .before .before .before .before .before .before .before .before .before .before .before .before .before .before .before .before .before .before .before .before .before .before .before .before .before .before .pre .0) _ _ (c .before .before .before .before .before .before .before .before .before .before .before .before .before .before .before .before .before .before .before .before .before .before .before .before .before .before .make-legs .result) (c .before .before .before .before .before .before .before .before .before .before .before .before .before .before .before .before .before .before .before .before .before .before .before .before .before .before .make-legs .ensures) (c .before .before .before .before .before .before .before .before .before .before .before .before .before .before .before .before .before .before .before .before .before .before .before .before .before .before .make-legs .result * 4 - 0) (omega arith), (c .before .before .before .before .before .before .before .before .before .before .before .before .before .before .before .before .before .before .before .link .ensures, ((c .before .before .before .before .before .before .before .before .before .before .before .before .before .before .before .before .before .before .before .before .before .before .before .before .before .before .before .before .before .before .pre .0 .most-stops, (c .before .before .before .before .before .before .before .before .before .before .before .before .before .before .before .before .before .before .before .before .before .before .before .before .before .before .before .before .before .before .pre .1 .0, omega (arith, c .before .before .before .before .before .before .before .before .before .before .before .before .before .before .before .before .before .before .before .before .before .before .before .before .before .before .before .before .before .before .pre .0 .most-stops, c .before .before .before .before .before .before .before .before .before .pivot-bounds .kept))), (omega (arith, c .before .before .before .before .before .before .before .before .before .before .before .before .before .before .lay-pivots .kept .1 .1 .1 .1 .0), omega (arith, c .before .before .before .before .before .before .before .before .before .before .before .before .before .before .lay-pivots .kept .1 .1 .1 .1 .1 .0)))))
+    let args = c .before .before .before .before .before .before .before .before .before .before .before .before .before .before .before .before .before .before .before .before .before .before .before .before .before .before .before .args in
+    (part-orderly (args .n) (args .a) (args .w) (args .rows .now) (c .before .before .before .before .before .before .before .before .before .before .before .before .before .before .before .before .before .before .before .before .before .before .before .before .before .before .before .pre .0) _ _ (c .before .before .before .before .before .before .before .before .before .before .before .before .before .before .before .before .before .before .before .before .lay-legs .ensures .count) (c .before .before .before .before .before .before .before .before .before .before .before .before .before .before .before .before .before .before .before .before .lay-legs .ensures .copied) (c .before .before .before .before .before .before .before .before .before .before .before .before .before .before .before .before .before .before .before .before .lay-legs .result - 0) (omega (arith, c .before .before .before .before .before .before .before .before .before .before .before .before .before .before .before .before .before .before .before .before .lay-legs .ensures .ends)), (laid-linked (c .before .before .before .before .before .before .before .before .before .before .before .before .before .before .before .before .before .before .before .before .lay-legs .ensures) (c .before .before .before .before .before .before .before .before .before .before .before .before .before .before .before .before .before .before .before .before .lay-legs .result - 0) (omega arith), ((c .before .before .before .before .before .before .before .before .before .before .before .before .before .before .before .before .before .before .before .before .before .before .before .before .before .before .before .pre .0 .most-stops, (c .before .before .before .before .before .before .before .before .before .before .before .before .before .before .before .before .before .before .before .before .before .before .before .before .before .before .before .pre .1 .0, omega (arith, c .before .before .before .before .before .before .before .before .before .before .before .before .before .before .before .before .before .before .before .before .before .before .before .before .before .before .before .pre .0 .most-stops, c .before .before .before .before .before .before .before .before .before .pivot-bounds .kept))), (omega (arith, c .before .before .before .before .before .before .before .before .before .before .before .before .before .before .lay-pivots .kept .1 .1 .1 .1 .0), omega (arith, c .before .before .before .before .before .before .before .before .before .before .before .before .before .before .lay-pivots .kept .1 .1 .1 .1 .1 .0)))))
 
 returns : tie.Need-returns
 returns c =
-    let args = c .before .before .before .before .before .before .before .before .before .before .before .before .before .before .before .before .before .before .before .before .before .before .before .before .before .before .before .before .before .before .before .args in
-    rw (c .visit-joined .ensures) (joined-right (args .n) (args .a) (args .w) (args .rows .now) (c .before .before .before .before .before .before .before .before .before .before .before .before .before .before .before .before .before .before .before .before .before .before .before .before .before .before .before .before .before .before .before .pre .0) (args .pivots .now) (c .before .before .before .before .before .before .before .before .before .before .before .before .before .before .before .before .before .before .before .before .before .before .before .before .before .before .before .before .before .before .before .pre .1 .1) _ (part-read (args .n) (args .a) (args .w) (args .rows .now) (c .before .before .before .before .before .before .before .before .before .before .before .before .before .before .before .before .before .before .before .before .before .before .before .before .before .before .before .before .before .before .before .pre .0) _ _ (c .before .before .before .before .before .before .before .before .before .before .before .before .before .before .before .before .before .before .before .before .before .before .before .before .before .before .before .make-legs .result) (c .before .before .before .before .before .before .before .before .before .before .before .before .before .before .before .before .before .before .before .before .before .before .before .before .before .before .before .make-legs .ensures) (c .before .before .before .before .before .before .before .before .before .before .before .before .before .before .before .before .before .before .before .before .before .before .before .before .before .before .before .make-legs .result * 4 - 0) (omega arith)) (c .before .before .before .before .before .before .before .before .before .before .before .before .before .before .before .lay-pivots .last .1 .1 .1 .1 .0) (c .before .before .before .before .before .before .before .before .before .before .before .before .before .before .before .lay-pivots .last .1 .1 .1 .1 .1 .0) (c .before .before .before .before .before .before .before .before .before .before .before .before .before .before .before .lay-pivots .ensures .0) (c .before .before .before .before .before .before .before .before .before .before .before .before .before .before .before .lay-pivots .ensures .1) _ (length-pivots (args .pivots .now)) _ (c .before .before .before .before .before .before .before .before .before .before .pivot-bounds .last .1 .1 .1 .0) (c .before .before .before .before .before .before .before .before .before .before .pivot-bounds .ensures))
+    let args = c .before .before .before .before .before .before .before .before .before .before .before .before .before .before .before .before .before .before .before .before .before .before .before .before .before .before .before .before .args in
+    rw (c .visit-joined .ensures) (joined-right (args .n) (args .a) (args .w) (args .rows .now) (c .before .before .before .before .before .before .before .before .before .before .before .before .before .before .before .before .before .before .before .before .before .before .before .before .before .before .before .before .pre .0) (args .pivots .now) (c .before .before .before .before .before .before .before .before .before .before .before .before .before .before .before .before .before .before .before .before .before .before .before .before .before .before .before .before .pre .1 .1) _ (part-read (args .n) (args .a) (args .w) (args .rows .now) (c .before .before .before .before .before .before .before .before .before .before .before .before .before .before .before .before .before .before .before .before .before .before .before .before .before .before .before .before .pre .0) _ _ (c .before .before .before .before .before .before .before .before .before .before .before .before .before .before .before .before .before .before .before .before .before .lay-legs .ensures .count) (c .before .before .before .before .before .before .before .before .before .before .before .before .before .before .before .before .before .before .before .before .before .lay-legs .ensures .copied) (c .before .before .before .before .before .before .before .before .before .before .before .before .before .before .before .before .before .before .before .before .before .lay-legs .result - 0) (omega (arith, c .before .before .before .before .before .before .before .before .before .before .before .before .before .before .before .before .before .before .before .before .before .lay-legs .ensures .ends))) (c .before .before .before .before .before .before .before .before .before .before .before .before .before .before .before .lay-pivots .last .1 .1 .1 .1 .0) (c .before .before .before .before .before .before .before .before .before .before .before .before .before .before .before .lay-pivots .last .1 .1 .1 .1 .1 .0) (c .before .before .before .before .before .before .before .before .before .before .before .before .before .before .before .lay-pivots .ensures .0) (c .before .before .before .before .before .before .before .before .before .before .before .before .before .before .before .lay-pivots .ensures .1) _ (length-pivots (args .pivots .now)) _ (c .before .before .before .before .before .before .before .before .before .before .pivot-bounds .last .1 .1 .1 .0) (c .before .before .before .before .before .before .before .before .before .before .pivot-bounds .ensures))
 
 pub search-joined-spec : {M : Type 1} → statement M
 search-joined-spec =
     tie.close
     (tie.spec
-    slice-aggregate-make-legs
-    make-legs-requires
-    mul-end
-    sub-link
-    part-link-start
-    part-link-end
-    link-requires
+    slice-aggregate-lay-legs
+    lay-legs-requires
     sub-lay-pivots
     part-lay-pivots-start
     part-lay-pivots-end

@@ -1,5 +1,5 @@
 -- Each return: the last checks, the end of the search, and scratch set to 0.
-use Prim.Native.Nat.{_*_, _-_}
+use Prim.Native.Nat.{_-_}
 use native.Mathlib.Omega.{arith}
 use mathlib.Core.Path.{refl, sym}
 use mathlib.Core.List.{[], _∷_}
@@ -9,7 +9,7 @@ use Rattle.rules.specs.Lent.{scratchPlaces}
 use Rattle.figures.specs.Parts.{lastChecks}
 use Rattle.figures.specs.Promises.{room, takes}
 use Rattle.figures.proofs.Lasting.{none-of-none, none-of-one, refuses-10, last-clear}
-use Rattle.figures.proofs.Laying.{scratch-wiped, legs-few, part-good, part-orderly, search-right}
+use Rattle.figures.proofs.Laying.{scratch-wiped, part-good, part-orderly, search-right, ready-for-all, laid-linked}
 use Rattle.figures.specs.Laws.Exists.{search-fulfils}
 use borrow.Author.Needs.{needs}
 use Rattle.figures.proofs.widest.own_diameter.Statement.{statement}
@@ -20,32 +20,11 @@ returns c =
     let args = c .before .before .before .args in
     (refuses-10 (rowsOf (args .rows .now)) (args .n) (args .a) (args .w) [] (room (args .scratch .now) scratchPlaces ∷ []) none-of-none (any-here (c .if1 .taken)), refl)
 
-slice-aggregate-make-legs : tie.Need-slice-aggregate-make-legs
-slice-aggregate-make-legs c = search needs
+slice-aggregate-lay-legs : tie.Need-slice-aggregate-lay-legs
+slice-aggregate-lay-legs c = search needs
 
-make-legs-requires : tie.Need-make-legs-requires
-make-legs-requires c κs = search needs
-
-mul-end : tie.Need-mul-end
-mul-end c =
-    let args = c .before .before .before .before .before .before .args in
-    omega (arith, legs-few (args .n) (args .a) (args .w) (args .rows .now) (c .before .before .before .before .before .before .pre) _ _ (c .before .make-legs .result) (c .before .make-legs .ensures))
-
-sub-link : tie.Need-sub-link
-sub-link c = search needs
-
-part-link-start : tie.Need-part-link-start
-part-link-start c = search needs
-
-part-link-end : tie.Need-part-link-end
-part-link-end c =
-    let args = c .before .before .before .before .before .before .before .args in
-    omega (arith, legs-few (args .n) (args .a) (args .w) (args .rows .now) (c .before .before .before .before .before .before .before .pre) _ _ (c .before .before .make-legs .result) (c .before .before .make-legs .ensures), c .before .before .make-legs .kept)
-
-link-requires : tie.Need-link-requires
-link-requires c κs =
-    let args = c .before .before .before .before .before .before .before .before .before .before .before .args in
-    (part-orderly (args .n) (args .a) (args .w) (args .rows .now) (c .before .before .before .before .before .before .before .before .before .before .before .pre) _ _ (c .before .before .before .before .before .before .make-legs .result) (c .before .before .before .before .before .before .make-legs .ensures) (c .before .before .before .before .before .before .make-legs .result * 4 - 0) (omega arith), (refl, refl))
+lay-legs-requires : tie.Need-lay-legs-requires
+lay-legs-requires c κs = ((ready-for-all (c .before .before .before .before .before .before .before .pre), omega arith), (refl, refl))
 
 sub-bounds : tie.Need-sub-bounds
 sub-bounds c = search needs
@@ -54,17 +33,15 @@ part-bounds-start : tie.Need-part-bounds-start
 part-bounds-start c = search needs
 
 part-bounds-end : tie.Need-part-bounds-end
-part-bounds-end c =
-    let args = c .before .before .before .before .before .before .before .before .before .before .before .before .before .args in
-    omega (arith, legs-few (args .n) (args .a) (args .w) (args .rows .now) (c .before .before .before .before .before .before .before .before .before .before .before .before .before .pre) _ _ (c .before .before .before .before .before .before .before .before .make-legs .result) (c .before .before .before .before .before .before .before .before .make-legs .ensures), c .before .before .before .before .before .before .before .before .make-legs .kept)
+part-bounds-end c = omega (arith, c .before .before .lay-legs .ensures .within)
 
 slice-aggregate-bounds : tie.Need-slice-aggregate-bounds
 slice-aggregate-bounds c = search needs
 
 bounds-requires : tie.Need-bounds-requires
 bounds-requires c κs =
-    let args = c .before .before .before .before .before .before .before .before .before .before .before .before .before .before .before .args in
-    (omega (arith, c .before .before .before .before .before .before .before .before .before .before .before .before .before .before .before .pre .most-stops), part-good (args .n) (args .a) (args .w) (args .rows .now) (c .before .before .before .before .before .before .before .before .before .before .before .before .before .before .before .pre) _ _ (c .before .before .before .before .before .before .before .before .before .before .make-legs .result) (c .before .before .before .before .before .before .before .before .before .before .make-legs .ensures) (c .before .before .before .before .before .before .before .before .before .before .make-legs .result * 4 - 0) (omega arith))
+    let args = c .before .before .before .before .before .before .before .before .before .before .before .before .args in
+    (omega (arith, c .before .before .before .before .before .before .before .before .before .before .before .before .pre .most-stops), part-good (args .n) (args .a) (args .w) (args .rows .now) (c .before .before .before .before .before .before .before .before .before .before .before .before .pre) _ _ (c .before .before .before .before .lay-legs .ensures .count) (c .before .before .before .before .lay-legs .ensures .copied) (c .before .before .before .before .lay-legs .result - 0) (omega (arith, c .before .before .before .before .lay-legs .ensures .ends)))
 
 sub-visit-all : tie.Need-sub-visit-all
 sub-visit-all c = search needs
@@ -73,17 +50,15 @@ part-visit-all-start : tie.Need-part-visit-all-start
 part-visit-all-start c = search needs
 
 part-visit-all-end : tie.Need-part-visit-all-end
-part-visit-all-end c =
-    let args = c .before .before .before .before .before .before .before .before .before .before .before .before .before .before .before .before .before .before .args in
-    omega (arith, legs-few (args .n) (args .a) (args .w) (args .rows .now) (c .before .before .before .before .before .before .before .before .before .before .before .before .before .before .before .before .before .before .pre) _ _ (c .before .before .before .before .before .before .before .before .before .before .before .before .before .make-legs .result) (c .before .before .before .before .before .before .before .before .before .before .before .before .before .make-legs .ensures), c .before .before .before .before .before .before .before .before .before .before .before .before .before .make-legs .kept)
+part-visit-all-end c = omega (arith, c .before .before .before .before .before .before .before .lay-legs .ensures .within)
 
 slice-aggregate-visit-all : tie.Need-slice-aggregate-visit-all
 slice-aggregate-visit-all c = search needs
 
 visit-all-requires : tie.Need-visit-all-requires
 visit-all-requires c κs =
-    let args = c .before .before .before .before .before .before .before .before .before .before .before .before .before .before .before .before .before .before .before .before .before .before .before .args in
-    (part-orderly (args .n) (args .a) (args .w) (args .rows .now) (c .before .before .before .before .before .before .before .before .before .before .before .before .before .before .before .before .before .before .before .before .before .before .before .pre) _ _ (c .before .before .before .before .before .before .before .before .before .before .before .before .before .before .before .before .before .before .make-legs .result) (c .before .before .before .before .before .before .before .before .before .before .before .before .before .before .before .before .before .before .make-legs .ensures) (c .before .before .before .before .before .before .before .before .before .before .before .before .before .before .before .before .before .before .make-legs .result * 4 - 0) (omega arith), (c .before .before .before .before .before .before .before .before .before .before .before .link .ensures, (c .before .before .before .before .before .before .before .before .before .before .before .before .before .before .before .before .before .before .before .before .before .before .before .pre .most-stops, omega (arith, c .before .before .before .before .before .before .before .before .before .before .before .before .before .before .before .before .before .before .before .before .before .before .before .pre .most-stops, c .before .before .before .before .before .before .before .bounds .kept))))
+    let args = c .before .before .before .before .before .before .before .before .before .before .before .before .before .before .before .before .before .before .before .before .args in
+    (part-orderly (args .n) (args .a) (args .w) (args .rows .now) (c .before .before .before .before .before .before .before .before .before .before .before .before .before .before .before .before .before .before .before .before .pre) _ _ (c .before .before .before .before .before .before .before .before .before .before .before .before .lay-legs .ensures .count) (c .before .before .before .before .before .before .before .before .before .before .before .before .lay-legs .ensures .copied) (c .before .before .before .before .before .before .before .before .before .before .before .before .lay-legs .result - 0) (omega (arith, c .before .before .before .before .before .before .before .before .before .before .before .before .lay-legs .ensures .ends)), (laid-linked (c .before .before .before .before .before .before .before .before .before .before .before .before .lay-legs .ensures) (c .before .before .before .before .before .before .before .before .before .before .before .before .lay-legs .result - 0) (omega arith), (c .before .before .before .before .before .before .before .before .before .before .before .before .before .before .before .before .before .before .before .before .pre .most-stops, omega (arith, c .before .before .before .before .before .before .before .before .before .before .before .before .before .before .before .before .before .before .before .before .pre .most-stops, c .before .before .before .before .before .before .before .bounds .kept))))
 
 fill-requires : tie.Need-fill-requires
 fill-requires c κs = search needs
@@ -96,21 +71,16 @@ same-length c = search needs
 
 returns-2 : tie.Need-returns-2
 returns-2 c =
-    let args = c .before .before .before .before .before .before .before .before .before .before .before .before .before .before .before .before .before .before .before .before .before .before .before .before .before .before .before .before .before .args in
-    let st = rw (sym (c .before .before .before .before .before .visit-all .ensures)) at (search-right (args .n) (args .a) (args .w) (args .rows .now) (c .before .before .before .before .before .before .before .before .before .before .before .before .before .before .before .before .before .before .before .before .before .before .before .before .before .before .before .before .before .pre) _ _ (c .before .before .before .before .before .before .before .before .before .before .before .before .before .before .before .before .before .before .before .before .before .before .before .before .make-legs .result) (c .before .before .before .before .before .before .before .before .before .before .before .before .before .before .before .before .before .before .before .before .before .before .before .before .make-legs .ensures) (c .before .before .before .before .before .before .before .before .before .before .before .before .before .before .before .before .before .before .before .before .before .before .before .before .make-legs .result * 4 - 0) (omega arith) _ (c .before .before .before .before .before .before .before .before .before .before .before .before .before .bounds .last .1 .1 .0) (c .before .before .before .before .before .before .before .before .before .before .before .before .before .bounds .ensures)) in rw (c .answer-of .ensures) (search-fulfils (lastChecks (rowsOf (args .rows .now)) (args .n) (args .a) (args .w) (takes [] [] (room (args .scratch .now) scratchPlaces ∷ []))) _ _ _ _ (c .before .before .before .before .before .visit-all .result) (last-clear (rowsOf (args .rows .now)) (args .n) (args .a) (args .w) [] (room (args .scratch .now) scratchPlaces ∷ []) none-of-none (none-of-one (λ l. omega (arith, c .before .before .before .before .before .before .before .before .before .before .before .before .before .before .before .before .before .before .before .before .before .before .before .before .before .before .if1 .left)))) st (scratch-wiped (args .scratch .now) _ (c .before .before .before .before .before .before .before .before .before .before .before .before .before .before .before .before .before .before .before .before .before .before .before .before .before .before .if1 .left) (c .before .before .before .fill .ensures)))
+    let args = c .before .before .before .before .before .before .before .before .before .before .before .before .before .before .before .before .before .before .before .before .before .before .before .before .before .before .args in
+    let st = rw (sym (c .before .before .before .before .before .visit-all .ensures)) at (search-right (args .n) (args .a) (args .w) (args .rows .now) (c .before .before .before .before .before .before .before .before .before .before .before .before .before .before .before .before .before .before .before .before .before .before .before .before .before .before .pre) _ _ (c .before .before .before .before .before .before .before .before .before .before .before .before .before .before .before .before .before .before .lay-legs .ensures .count) (c .before .before .before .before .before .before .before .before .before .before .before .before .before .before .before .before .before .before .lay-legs .ensures .copied) (c .before .before .before .before .before .before .before .before .before .before .before .before .before .before .before .before .before .before .lay-legs .result - 0) (omega (arith, c .before .before .before .before .before .before .before .before .before .before .before .before .before .before .before .before .before .before .lay-legs .ensures .ends)) _ (c .before .before .before .before .before .before .before .before .before .before .before .before .before .bounds .last .1 .1 .0) (c .before .before .before .before .before .before .before .before .before .before .before .before .before .bounds .ensures)) in rw (c .answer-of .ensures) (search-fulfils (lastChecks (rowsOf (args .rows .now)) (args .n) (args .a) (args .w) (takes [] [] (room (args .scratch .now) scratchPlaces ∷ []))) _ _ _ _ (c .before .before .before .before .before .visit-all .result) (last-clear (rowsOf (args .rows .now)) (args .n) (args .a) (args .w) [] (room (args .scratch .now) scratchPlaces ∷ []) none-of-none (none-of-one (λ l. omega (arith, c .before .before .before .before .before .before .before .before .before .before .before .before .before .before .before .before .before .before .before .before .before .before .before .if1 .left)))) st (scratch-wiped (args .scratch .now) _ (c .before .before .before .before .before .before .before .before .before .before .before .before .before .before .before .before .before .before .before .before .before .before .before .if1 .left) (c .before .before .before .fill .ensures)))
 
 pub own-diameter-spec : {M : Type 1} → statement M
 own-diameter-spec =
     tie.close
     (tie.spec
     returns
-    slice-aggregate-make-legs
-    make-legs-requires
-    mul-end
-    sub-link
-    part-link-start
-    part-link-end
-    link-requires
+    slice-aggregate-lay-legs
+    lay-legs-requires
     sub-bounds
     part-bounds-start
     part-bounds-end
