@@ -1,0 +1,34 @@
+/* A plugin of QEMU that counts the instructions that a program runs, and writes the number on standard error at the end. */
+#include <inttypes.h>
+#include <stddef.h>
+#include <stdio.h>
+
+struct qemu_plugin_tb;
+void qemu_plugin_register_vcpu_tb_trans_cb(uint64_t id, void (*translated)(uint64_t, struct qemu_plugin_tb *));
+void qemu_plugin_register_vcpu_tb_exec_inline(struct qemu_plugin_tb *block, int operation, void *number, uint64_t added);
+void qemu_plugin_register_atexit_cb(uint64_t id, void (*ended)(uint64_t, void *), void *given);
+size_t qemu_plugin_tb_n_insns(const struct qemu_plugin_tb *block);
+
+int qemu_plugin_version = 1;
+
+static uint64_t count;
+
+static void translated(uint64_t id, struct qemu_plugin_tb *block) {
+    (void)id;
+    qemu_plugin_register_vcpu_tb_exec_inline(block, 0, &count, qemu_plugin_tb_n_insns(block));
+}
+
+static void ended(uint64_t id, void *given) {
+    (void)id;
+    (void)given;
+    fprintf(stderr, "instructions: %" PRIu64 "\n", count);
+}
+
+int qemu_plugin_install(uint64_t id, const void *info, int argc, char **argv) {
+    (void)info;
+    (void)argc;
+    (void)argv;
+    qemu_plugin_register_vcpu_tb_trans_cb(id, translated);
+    qemu_plugin_register_atexit_cb(id, ended, NULL);
+    return 0;
+}
