@@ -1,8 +1,7 @@
 // Clock readings and lengths of time, in whole seconds, kept apart by type: nothing here adds two readings.
 ghost use mathlib.Core.Path.{_≡_};
 ghost use Prim.Native.Nat.{_+_};
-ghost use Rattle.rules.specs.Clock.{horizon};
-ghost use Rattle.clock.specs.Time.{madeOf, gapOf};
+ghost use Rattle.clock.specs.Time.{madeOf, gapOf, lastReading};
 
 // A reading of the clock.
 pub struct Reading(pub u32);
@@ -67,7 +66,7 @@ impl Reading {
 // The constant is the horizon of the rules.
 pub fn horizon() -> Reading
     ensures constant { λ r. do v ← ⟦Reading::HORIZON.0⟧ .entry; ⌜ r .0 ≡ v ⌝ }
-    ensures rules { λ r. ⌜ r .0 ≡ horizon ⌝ }
+    ensures rules { λ r. ⌜ r ≡ lastReading ⌝ }
 {
     Reading::HORIZON
 }

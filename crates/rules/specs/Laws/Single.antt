@@ -184,7 +184,7 @@ refusal-single (c ∷ cs) s k p k′ p′ (inl x) (inr y) = absurd (y .0 p (x .1
 refusal-single (c ∷ cs) s k p k′ p′ (inr x) (inl y) = absurd (x .0 p′ (y .1))
 refusal-single (c ∷ cs) s k p k′ p′ (inr x) (inr y) = refusal-single cs (s .1) k p k′ p′ (x .1) (y .1)
 
-zero-place : {P : Type 0} (p q : ℕ) → (p ≡ 0) × P → (q ≡ 0) × P → p ≡ q
+pub zero-place : {P : Type 0} (p q : ℕ) → (p ≡ 0) × P → (q ≡ 0) × P → p ≡ q
 zero-place p q h k = h .0 ∙ sym (k .0)
 
 pub table-one-place : (q : Ask) (t : Takes) → OnePlace (table q t)

@@ -117,3 +117,9 @@ copied-front width numbers wide {xs} {old} {new} {count} c end e =
 pub kept-most : {A : Type 0} {width : ℕ} {numbers : A → List ℕ} {b : Bool} {x : A} {count count′ : ℕ} {new new′ : List ℕ} → Kept width numbers b x count new count′ new′ → count′ ≤ count + 1
 kept-most {b = true} k = omega (arith, k .number)
 kept-most {b = false} k = omega (arith, k .number)
+
+-- a room has one content after the copying, and one count
+pub copied-single : {A : Type 0} {width : ℕ} {numbers : A → List ℕ} {xs : List A} {old new new′ : List ℕ} {count count′ : ℕ}
+    → Copied width numbers xs old count new → Copied width numbers xs old count′ new′ → (count ≡ count′) × (new ≡ new′)
+copied-single {width = width} {numbers = numbers} {xs = xs} {old = old} h g =
+    let e = h .number ∙ sym (g .number) in (e, h .list ∙ (ap (λ (k : ℕ). written numbers xs ++ drop (k * width) old) e ∙ sym (g .list)))

@@ -1,0 +1,2 @@
+-- Laws of rows and verdicts.
+pub mod Single
