@@ -52,9 +52,9 @@ ready-for-all r =
     record { good = good-for-more (r .most-stops) (r .good); some-stop = omega arith; most-stops = omega arith; few = r .few; in-order = r .in-order; in-day = r .in-day }
 
 -- the links are those of the part of the room that holds the legs
-pub laid-linked : {A W end : ℕ} {rs : List Row} {old legs head next follow : List ℕ} → LegsLaid A W rs old end legs head next follow → (part : ℕ) → part ≡ end
-    → Linked (take part legs) 0 head next follow
-laid-linked {legs = legs} {head = head} {next = next} {follow = follow} laid part e = subst (λ (k : ℕ). Linked (take k legs) 0 head next follow) (sym e) (laid .linked)
+pub laid-linked : {A W end : ℕ} {rs : List Row} {legs next follow legs′ head′ next′ follow′ : List ℕ} → LegsLaid A W rs legs next follow end legs′ head′ next′ follow′ → (part : ℕ)
+    → part ≡ end → Linked (take part legs′) 0 head′ next′ follow′
+laid-linked {legs′ = legs′} {head′ = head′} {next′ = next′} {follow′ = follow′} laid part e = subst (λ (k : ℕ). Linked (take k legs′) 0 head′ next′ follow′) (sym e) (laid .links .linked)
 
 -- legs in the front of a room, and the part of the room that holds them
 module _ (n A W : ℕ) (rows : List ℕ) (r : Ready n A W rows) (old legs : List ℕ) (m : ℕ) (copied : Copied legWidth legNumbers (legsOf A W (rowsOf rows)) old m legs) where

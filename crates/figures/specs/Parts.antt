@@ -11,7 +11,7 @@ use Rattle.rules.specs.Lent.{Stands, Copied}
 use Rattle.rules.specs.Table.{Check, Takes, check-1, check-2, check-3, check-4, check-5, check-6, check-7, check-8, check-9, check-10, check-12, Clear, Refuses}
 use Rattle.rules.specs.Laws.Good.{Good}
 use Rattle.passes.specs.Legs.{legWidth, legNumbers, legsOf}
-use Rattle.passes.specs.Links.{Linked}
+use Rattle.passes.specs.Links.{Links}
 use Rattle.passes.specs.Laws.Chains.{rowsDay}
 use Rattle.figures.specs.declared.ask.Prepared.{Prepared}
 use Rattle.figures.specs.declared.ask.Prepared.the-variants as prepared
@@ -54,12 +54,12 @@ Prepares q old (prepared.Rows k) new = Clear (firstChecks q) × Copied rowWidth 
 Prepares q old (prepared.Refused number place) new = Refuses (firstChecks q) number place
 
 -- the legs of some rows stand in the front of a room, up to `end`, and are linked
-pub record LegsLaid (A W : ℕ) (rs : List Row) (old : List ℕ) (end : ℕ) (legs head next follow : List ℕ) : Type 0 where
+pub record LegsLaid (A W : ℕ) (rs : List Row) (legs next follow : List ℕ) (end : ℕ) (legs′ head′ next′ follow′ : List ℕ) : Type 0 where
   pub count : ℕ
-  pub copied : Copied legWidth legNumbers (legsOf A W rs) old count legs
+  pub copied : Copied legWidth legNumbers (legsOf A W rs) legs count legs′
   pub ends : end ≡ count * legWidth
-  pub within : end ≤ length legs
-  pub linked : Linked (take end legs) 0 head next follow
+  pub within : end ≤ length legs′
+  pub links : Links (take end legs′) next follow head′ next′ follow′
 
 -- each source u has its own stretch of the table, from place u × n
 abbrev pub Stretched : List Row → (n A W : ℕ) → (place number : ℕ) → Type 0

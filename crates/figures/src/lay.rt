@@ -34,7 +34,7 @@ pub fn lay_legs(
 ) -> usize
     requires { ⌜ Ready mostStops a w (now rows) × (mostRows * legWidth ≤ length (now legs)) ⌝ }
     requires { ⌜ (length (now next) ≡ linkPlaces) × (length (now follow) ≡ linkPlaces) ⌝ }
-    ensures { λ end. ⌜ LegsLaid a w (rowsOf (now (rows .entry))) (now (legs .entry)) end (now (legs .exit)) (now (head .exit)) (now (next .exit)) (now (follow .exit)) ⌝ }
+    ensures { λ end. ⌜ LegsLaid a w (rowsOf (now (rows .entry))) (now (legs .entry)) (now (next .entry)) (now (follow .entry)) end (now (legs .exit)) (now (head .exit)) (now (next .exit)) (now (follow .exit)) ⌝ }
 {
     let m = make_legs(rows, Reading(a), Reading(w), legs);
     let end = m * LEG_WIDTH;

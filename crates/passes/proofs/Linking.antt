@@ -8,7 +8,7 @@ use lib.ListN.{length, getD, set, replicate, length-set, length-replicate}
 use lib.Seq.{getD-set-same, getD-set-other, set-out}
 use Rattle.rules.specs.Day.{arrival, Sound, mostStops, mostRows}
 use Rattle.passes.specs.Legs.{legWidth}
-use Rattle.passes.specs.Links.{linkPlaces, legCount, legNo, Orderly, firstPast, onward, Jump, Chained, Twice, to-next, to-second, AllMost, Linked}
+use Rattle.passes.specs.Links.{linkPlaces, legCount, legNo, Orderly, firstPast, onward, Jump, Chained, Twice, to-next, to-second, AllMost, Linked, Beside}
 use Rattle.passes.specs.Laws.Links.{none-past, first-leaves, first-missed, first-hit, onward-first, leg-sound}
 
 -- what holds at each number above k, and of what is stored at k, holds at each number above k - 1
@@ -18,6 +18,18 @@ stored P m k v xs inside above here x l h = go (ℕ-discrete x k)
     go : Dec (x ≡ k) → P x (getD (set xs k v) x 0)
     go (yes e) = rw (e, getD-set-same xs k v 0 inside) here
     go (no e) = rw (getD-set-other xs k x v 0 e) (above x (omega arith) h)
+
+-- an array that is written at k too
+pub beside-one : (list : List ℕ) (k v : ℕ) (old xs : List ℕ) → 1 ≤ k → k ≤ legCount list → Beside list k old xs → Beside list (k - 1) old (set xs k v)
+beside-one list k v old xs one within b =
+    record {
+      same-length = length-set xs k v ∙ b .same-length;
+      below = λ x l. getD-set-other xs k x v 0 (λ e. omega (arith, e)) ∙ b .below x (omega arith);
+      beyond = λ x l. getD-set-other xs k x v 0 (λ e. omega (arith, e)) ∙ b .beyond x l;
+    }
+
+pub beside-none : (list : List ℕ) (k : ℕ) (old : List ℕ) → Beside list k old old
+beside-none list k old = record { same-length = refl; below = λ x l. refl; beyond = λ x l. refl }
 
 pub all-most-set : (b c k v : ℕ) (xs : List ℕ) → b ≤ c → AllMost b xs → v ≤ c → AllMost c (set xs k v)
 all-most-set b c k v xs le all most x = go (ℕ-discrete x k) (decLt k (length xs))

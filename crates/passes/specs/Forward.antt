@@ -30,13 +30,13 @@ init A u n = set (replicate n nowhere) u A
 abbrev pub arrivalOf : ℕ → Arrival
 arrivalOf x = cond (eqb x nowhere) Unreached (After (record { 0 = x }))
 
--- what a leg offers to a rider who is at its from-stop at `here`
-abbrev pub offered : (here start arrive : ℕ) → ℕ
-offered here start arrive = cond (eqb here nowhere) nowhere (cond (leb here start) arrive nowhere)
+-- the arrival at a leg's to-stop, known so far, once a rider who is at its from-stop at `here` may take the leg
+abbrev pub offered : (here start arrive known : ℕ) → ℕ
+offered here start arrive known = cond (eqb here nowhere) known (cond (leb here start) (min arrive known) known)
 
 -- the arrivals after one leg
 abbrev pub relaxed : List ℕ → (from to start arrive : ℕ) → List ℕ
-relaxed st from to start arrive = set st to (min (offered (getD st from 0) start arrive) (getD st to 0))
+relaxed st from to start arrive = set st to (offered (getD st from 0) start arrive (getD st to 0))
 
 -- the arrivals after some legs
 unfoldable pub passed : List Row → List ℕ → List ℕ

@@ -9,3 +9,4 @@ pub mod Backward
 pub mod Swept
 pub mod Reach
 pub mod Onward
+pub mod Single

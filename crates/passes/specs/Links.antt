@@ -82,3 +82,16 @@ pub record Threaded (list : List ℕ) (k : ℕ) (next follow : List ℕ) : Type 
 pub record Linked (list : List ℕ) (k : ℕ) (head next follow : List ℕ) : Type 0 where
   pub heads : (u : ℕ) → u < mostStops → getD head u 0 ≡ firstPast list k u 0
   pub threads : Threaded list k next follow
+
+-- an array over the numbers of legs is written at the legs' numbers above k alone
+pub record Beside (list : List ℕ) (k : ℕ) (old new : List ℕ) : Type 0 where
+  pub same-length : length new ≡ length old
+  pub below : (x : ℕ) → x ≤ k → getD new x 0 ≡ getD old x 0
+  pub beyond : (x : ℕ) → legCount list < x → getD new x 0 ≡ getD old x 0
+
+-- all legs are linked, and the places that belong to no leg are kept
+pub record Links (list next follow head′ next′ follow′ : List ℕ) : Type 0 where
+  pub linked : Linked list 0 head′ next′ follow′
+  pub head-length : length head′ ≡ mostStops
+  pub next-kept : Beside list 0 next next′
+  pub follow-kept : Beside list 0 follow follow′

@@ -4,7 +4,7 @@ ghost use mathlib.Core.List.{_++_};
 ghost use Prim.Native.Nat.{_≤_, _<_, min};
 ghost use lib.ListN.{length, drop};
 ghost use Rattle.passes.specs.Legs.{legsIn, Laid};
-ghost use Rattle.passes.specs.Forward.{arrivalOf, offered, relaxed, passed, init};
+ghost use Rattle.passes.specs.Forward.{arrivalOf, relaxed, passed, init};
 use crate::front::fill;
 use crate::legs::LEG_WIDTH;
 use crate::legs::Leg;
@@ -30,17 +30,6 @@ fn arrival_of(x: u32) -> Arrival
     Arrival::After(Length(x))
 }
 
-// The arrival that a leg offers to a rider whose arrival at its from-stop is `here`.
-fn offer(here: u32, start: Length, arrive: Length) -> u32
-    ensures { λ r. ⌜ r ≡ offered here (start .0) (arrive .0) ⌝ }
-{
-    let a = arrival_of(here);
-    let Arrival::After(h) = a else {
-        return UNREACHED;
-    };
-    if h.0 <= start.0 { arrive.0 } else { UNREACHED }
-}
-
 // The lesser of two numbers.
 pub fn least(a: u32, b: u32) -> u32
     ensures { λ r. ⌜ r ≡ min a b ⌝ }
@@ -57,8 +46,13 @@ fn relax(out: &mut [u32], l: Leg)
     let t = l.to as usize;
     let start = l.start;
     let arrive = l.arrive;
-    let x = offer(out[f], start, arrive);
-    out[t] = least(x, out[t]);
+    let here = arrival_of(out[f]);
+    let Arrival::After(h) = here else {
+        return;
+    };
+    if h.0 <= start.0 {
+        out[t] = least(arrive.0, out[t]);
+    }
 }
 
 // No stop is reached but the source, at once.

@@ -12,8 +12,6 @@ pub use forward::UNREACHED;
 pub use forward::forward_pass;
 pub use front::fill;
 pub use legs::LEG_WIDTH;
-pub use legs::Leg;
-pub use legs::leg_at;
 pub use legs::make_legs;
 pub use links::link;
 pub use reach::reach_back;

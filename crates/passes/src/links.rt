@@ -3,7 +3,7 @@ ghost use mathlib.Core.Path.{_≡_};
 ghost use Prim.Native.Nat.{_-_, _≤_};
 ghost use lib.ListN.{length};
 ghost use Rattle.rules.specs.Day.{mostRows};
-ghost use Rattle.passes.specs.Links.{linkPlaces, legCount, Orderly, Linked, onward, Chained, Farther, Twice, AllMost};
+ghost use Rattle.passes.specs.Links.{linkPlaces, legCount, Orderly, Links, onward, Chained, Farther, Twice, AllMost};
 use crate::legs::LEG_WIDTH;
 use crate::legs::leg_at;
 
@@ -63,12 +63,12 @@ fn jump_of(jump: &[u32; 2049], depth: &[u32; 2049], p: u32) -> u32
     p
 }
 
-// Fills in the links of all legs.
+// Fills in the links of all legs; a place that belongs to no leg is kept.
 pub fn link(legs: &[u32], head: &mut [u32; 256], next: &mut [u32; 2049], follow: &mut [u32; 2049])
     requires { ⌜ Orderly (now legs) ⌝ }
     requires { ⌜ length (now next) ≡ linkPlaces ⌝ }
     requires { ⌜ length (now follow) ≡ linkPlaces ⌝ }
-    ensures { λ _. ⌜ Linked (now (legs .entry)) 0 (now (head .exit)) (now (next .exit)) (now (follow .exit)) ⌝ }
+    ensures { λ _. ⌜ Links (now (legs .entry)) (now (next .entry)) (now (follow .entry)) (now (head .exit)) (now (next .exit)) (now (follow .exit)) ⌝ }
 {
     *head = [0u32; 256];
     let mut jump = [0u32; 2049];

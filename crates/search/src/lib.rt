@@ -6,7 +6,6 @@ mod state;
 mod targets;
 
 pub use entries::bounds;
-pub use entries::later;
 pub use far::Far;
 pub use far::farthest;
 pub use pivots::PIVOT_PLACES;

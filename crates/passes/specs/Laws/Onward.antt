@@ -24,7 +24,7 @@ use Rattle.passes.specs.Laws.Chains.{rowsDay, spans}
 use Rattle.passes.specs.Laws.Legs.{legs-good, legs-end, legs-distance-in}
 use Rattle.passes.specs.Laws.Forward.{Found, at-once, by-route, found}
 use Rattle.passes.specs.Laws.Distance.{since, dist, dist-right}
-use Rattle.passes.specs.Laws.Passed.{getD-any, passed-pass, passed-length, init-long, init-bounded}
+use Rattle.passes.specs.Laws.Passed.{getD-any, passed-pass, passed-length, init-long}
 
 -- before the pass no place holds less than when the rider leaves
 init-least : (a u n w : ℕ) → u < n → a ≤ nowhere → a ≤ getD (init a u n) w nowhere
@@ -57,7 +57,7 @@ module _ (rs : List Row) (A W n : ℕ) (g : Good n rs) (wh : W ≤ horizon) (p :
   same =
       getD-any (passed ls (init a (p .stop) n)) v 0 nowhere (omega (arith, passed-length ls (init a (p .stop) n), init-long a (p .stop) n))
       ∙ ap (λ (st : List ℕ). getD st v nowhere)
-      (passed-pass (W - A) n ls (init a (p .stop) n) (omega arith) good (legs-end A W rs) (init-long a (p .stop) n) (init-bounded a (p .stop) n (omega (arith, s .not-after))))
+      (passed-pass (W - A) n ls (init a (p .stop) n) (omega arith) good (legs-end A W rs) (init-long a (p .stop) n))
 
   -- it is no earlier than the pivot's reading
   pub onward-late : p .reading - A ≤ getD (onwardPivot n A (legsOf A W rs) p) v 0

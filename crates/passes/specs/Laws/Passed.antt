@@ -26,28 +26,14 @@ getD-any [] i d e l = absurd (omega arith)
 getD-any (x ∷ xs) zero d e l = refl
 getD-any (x ∷ xs) (suc i) d e l = getD-any xs i d e (omega arith)
 
--- no number is above nowhere
-abbrev pub Bounded : List ℕ → Type 0
-Bounded st = (i : ℕ) → getD st i 0 ≤ nowhere
-
 relaxed-length : (st : List ℕ) (f t s a : ℕ) → length (relaxed st f t s a) ≡ length st
-relaxed-length st f t s a = length-set st t (min (offered (getD st f 0) s a) (getD st t 0))
+relaxed-length st f t s a = length-set st t (offered (getD st f 0) s a (getD st t 0))
 
-relaxed-bounded : (st : List ℕ) (f t s a : ℕ) → t < length st → Bounded st → Bounded (relaxed st f t s a)
-relaxed-bounded st f t s a l h i = go (ℕ-discrete i t)
-  where
-    x : ℕ
-    x = min (offered (getD st f 0) s a) (getD st t 0)
-
-    go : Dec (i ≡ t) → getD (set st t x) i 0 ≤ nowhere
-    go (no e) = subst (λ (y : ℕ). y ≤ nowhere) (sym (getD-set-other st t i x 0 e)) (h i)
-    go (yes e) = rw e (omega (arith, getD-set-same st t x 0 l, h t))
-
--- a leg taken by the least of two numbers is a step of the pass
-relaxed-step : (W : ℕ) (r : Row) (st : List ℕ) → r .from < length st → r .to < length st → r .start < nowhere → arrival r ≤ W → Bounded st
+-- a leg taken is a step of the pass
+relaxed-step : (W : ℕ) (r : Row) (st : List ℕ) → r .from < length st → r .to < length st → r .start < nowhere → arrival r ≤ W
     → relaxed st (r .from) (r .to) (r .start) (arrival r) ≡ step W r st
 unfolding step usable
-relaxed-step W r st fl tl sn aw h =
+relaxed-step W r st fl tl sn aw =
     rw (sym (getD-any st (r .from) 0 nowhere fl), sym (getD-any st (r .to) 0 nowhere tl), le-leb (arrival r) W aw)
     (go (eqb x nowhere) (leb x (r .start)) (ltb (arrival r) y) refl refl refl)
   where
@@ -61,23 +47,23 @@ relaxed-step W r st fl tl sn aw h =
     same z e = rw e (set-getD st (r .to) 0)
 
     go : (a b c : Bool) → eqb x nowhere ≡ a → leb x (r .start) ≡ b → ltb (arrival r) y ≡ c
-        → set st (r .to) (min (cond a nowhere (cond b (arrival r) nowhere)) y) ≡ cond (b && (true && c)) (set st (r .to) (arrival r)) st
+        → set st (r .to) (cond a y (cond b (min (arrival r) y) y)) ≡ cond (b && (true && c)) (set st (r .to) (arrival r)) st
     go true true c e f g = absurd (omega (arith, eqb-true x nowhere e, leb-true x (r .start) f))
-    go true false c e f g = same (min nowhere y) (omega (arith, h (r .to)))
+    go true false c e f g = same y refl
     go false true true e f g = ap (set st (r .to)) (omega (arith, ltb-true (arrival r) y g))
     go false true false e f g = same (min (arrival r) y) (omega (arith, ltb-false (arrival r) y g))
-    go false false c e f g = same (min nowhere y) (omega (arith, h (r .to)))
+    go false false c e f g = same y refl
 
 abbrev pub EndBy : (W : ℕ) → List Row → Type 0
 EndBy W rs = (q : Row) → List·Memᴰ q rs → arrival q ≤ W
 
-pub passed-pass : (W n : ℕ) (rs : List Row) (st : List ℕ) → W ≤ horizon → Good n rs → EndBy W rs → length st ≡ n → Bounded st → passed rs st ≡ pass W rs st
+pub passed-pass : (W n : ℕ) (rs : List Row) (st : List ℕ) → W ≤ horizon → Good n rs → EndBy W rs → length st ≡ n → passed rs st ≡ pass W rs st
 unfolding passed pass
-passed-pass W n [] st wh g ends e h = refl
-passed-pass W n (r ∷ rs) st wh (good-more s up g) ends e h =
+passed-pass W n [] st wh g ends e = refl
+passed-pass W n (r ∷ rs) st wh (good-more s up g) ends e =
     let late : arrival r ≤ W = ends r (List·Memᴰ·head refl) in
-    let one : relaxed st (r .from) (r .to) (r .start) (arrival r) ≡ step W r st = relaxed-step W r st (omega (arith, s .from-below)) (omega (arith, s .to-below)) (omega arith) late h in
-    passed-pass W n rs (relaxed st (r .from) (r .to) (r .start) (arrival r)) wh g (λ q m. ends q (List·Memᴰ·tail m)) (relaxed-length st _ _ _ _ ∙ e) (relaxed-bounded st _ _ _ _ (omega (arith, s .to-below)) h)
+    let one : relaxed st (r .from) (r .to) (r .start) (arrival r) ≡ step W r st = relaxed-step W r st (omega (arith, s .from-below)) (omega (arith, s .to-below)) (omega arith) late in
+    passed-pass W n rs (relaxed st (r .from) (r .to) (r .start) (arrival r)) wh g (λ q m. ends q (List·Memᴰ·tail m)) (relaxed-length st _ _ _ _ ∙ e)
     ∙ ap (pass W rs) one
 
 -- what stands beyond the stops stays
@@ -86,7 +72,7 @@ Inside n rs = (q : Row) → List·Memᴰ q rs → (q .from < n) × (q .to < n)
 
 relaxed-append : (st t : List ℕ) (f u s a : ℕ) → f < length st → u < length st → relaxed (st ++ t) f u s a ≡ relaxed st f u s a ++ t
 relaxed-append st t f u s a fl ul =
-    rw (List·getD-append st t 0 f fl, List·getD-append st t 0 u ul) (set-append-left st t u (min (offered (getD st f 0) s a) (getD st u 0)) ul)
+    rw (List·getD-append st t 0 f fl, List·getD-append st t 0 u ul) (set-append-left st t u (offered (getD st f 0) s a (getD st u 0)) ul)
 
 pub passed-append : (n : ℕ) (rs : List Row) (st t : List ℕ) → Inside n rs → length st ≡ n → passed rs (st ++ t) ≡ passed rs st ++ t
 unfolding passed
@@ -104,24 +90,6 @@ passed-length (r ∷ rs) st = passed-length rs (relaxed st (r .from) (r .to) (r 
 pub init-long : (a u n : ℕ) → length (init a u n) ≡ n
 unfolding init
 init-long a u n = length-set (replicate n nowhere) u a ∙ length-replicate n nowhere
-
-pub init-bounded : (a u n : ℕ) → a ≤ nowhere → Bounded (init a u n)
-unfolding init
-init-bounded a u n l i = go (ℕ-discrete i u)
-  where
-    low : (k j : ℕ) → getD (replicate k nowhere) j 0 ≤ nowhere
-    low zero j = omega arith
-    low (suc k) zero = omega arith
-    low (suc k) (suc j) = low k j
-
-    put : (xs : List ℕ) (j : ℕ) → ((i : ℕ) → getD xs i 0 ≤ nowhere) → getD (set xs j a) j 0 ≤ nowhere
-    put [] j h = omega arith
-    put (x ∷ xs) zero h = l
-    put (x ∷ xs) (suc j) h = put xs j (λ i. h (suc i))
-
-    go : Dec (i ≡ u) → getD (set (replicate n nowhere) u a) i 0 ≤ nowhere
-    go (yes e) = rw e (put (replicate n nowhere) u (low n))
-    go (no e) = subst (λ (y : ℕ). y ≤ nowhere) (sym (getD-set-other (replicate n nowhere) u i a 0 e)) (low n i)
 
 -- the number that a distance since 0 is written as
 number-since : (x : ℕ) → x ≡ inNumbers (since 0 x)
@@ -150,7 +118,7 @@ passed-stands rs A W n u v g aw wh ul vl =
     good = legs-good n A W rs g
 
     e : passed ls (init 0 u n) ≡ pass (W - A) ls (init 0 u n)
-    e = passed-pass (W - A) n ls (init 0 u n) (omega arith) good (legs-end A W rs) (init-long 0 u n) (init-bounded 0 u n (omega arith))
+    e = passed-pass (W - A) n ls (init 0 u n) (omega arith) good (legs-end A W rs) (init-long 0 u n)
 
     same : getD (passed ls (init 0 u n)) v 0 ≡ getD (pass (W - A) ls (init 0 u n)) v nowhere
     same = getD-any (passed ls (init 0 u n)) v 0 nowhere (omega (arith, passed-length ls (init 0 u n), init-long 0 u n)) ∙ ap (λ (st : List ℕ). getD st v nowhere) e

@@ -41,7 +41,7 @@ returns c =
     let m = c .before .before .before .before .before .before .before .before .make-legs .result in
     let copied = c .before .before .before .before .before .before .before .before .make-legs .ensures in
     let e : m * 4 - 0 ≡ m * 4 = omega arith in
-    record { count = m; copied = copied; ends = refl; within = omega (arith, legs-few mostStops (args .a) (args .w) (args .rows .now) (c .before .before .before .before .before .before .before .before .before .before .before .before .pre .0 .0) _ _ m copied, c .before .before .before .before .before .before .before .before .make-legs .kept, c .before .before .before .before .before .before .before .before .before .before .before .before .pre .0 .1); linked = rw e at (c .link .ensures) }
+    record { count = m; copied = copied; ends = refl; within = omega (arith, legs-few mostStops (args .a) (args .w) (args .rows .now) (c .before .before .before .before .before .before .before .before .before .before .before .before .pre .0 .0) _ _ m copied, c .before .before .before .before .before .before .before .before .make-legs .kept, c .before .before .before .before .before .before .before .before .before .before .before .before .pre .0 .1); links = rw e at (c .link .ensures) }
 
 pub lay-legs-spec : {M : Type 1} → statement M
 lay-legs-spec =

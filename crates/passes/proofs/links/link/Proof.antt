@@ -5,14 +5,14 @@ use borrow.Author.Needs.{needs}
 use mathlib.Core.Path.{_≡_}
 use lib.ListN.{getD}
 use Rattle.rules.specs.Day.{mostStops}
-use Rattle.passes.specs.Links.{linkPlaces, legCount}
+use Rattle.passes.specs.Links.{linkPlaces, legCount, Linked, Beside}
 use Rattle.passes.specs.Laws.Links.{leg-sound, head-within}
-use Rattle.passes.proofs.Linking.{Linking, linking-none, link-one, head-chained}
+use Rattle.passes.proofs.Linking.{Linking, beside-one, beside-none, linking-none, link-one, head-chained}
 use Rattle.passes.proofs.links.link.Statement.{statement}
 use Rattle.passes.proofs.links.link.Tie as tie
 
 abbrev Inv-loop : tie.InvT-loop
-Inv-loop legs head₀ next₀ follow₀ jump₀ depth₀ k₀ head next follow jump depth k = (k ≤ legCount legs) × Linking legs k head next follow jump depth
+Inv-loop legs head₀ next₀ follow₀ jump₀ depth₀ k₀ head next follow jump depth k = (k ≤ legCount legs) × Linking legs k head next follow jump depth × Beside legs k next₀ next × Beside legs k follow₀ follow
 
 abbrev μ-loop : tie.MeasureT-loop
 μ-loop legs head₀ next₀ follow₀ jump₀ depth₀ k₀ head next follow jump depth k = k
@@ -21,7 +21,7 @@ loop-holds : tie.Need-loop-holds Inv-loop μ-loop
 loop-holds c =
     let args = c .before .before .args in
     let pre = c .before .before .pre in
-    (omega arith, linking-none (args .legs .now) (args .next .now) (args .follow .now) (pre .1 .0) (pre .1 .1))
+    (omega arith, linking-none (args .legs .now) (args .next .now) (args .follow .now) (pre .1 .0) (pre .1 .1), beside-none _ _ _, beside-none _ _ _)
 
 -- in a turn: the leg's number is small
 number-below : (c : tie.In-loop Inv-loop μ-loop) → (1 ≤ c .before .loop .k) × (c .before .loop .k < linkPlaces)
@@ -141,13 +141,13 @@ loop-again c =
     let args = c .before .before .before .before .before .before .before .before .before .before .before .before .before .before .before .before .args in
     let loop = c .before .before .before .before .before .before .before .before .before .before .before .before .before .loop in
     let leg = c .before .before .before .before .before .before .before .before .before .before .before .leg-at in
-    (omega arith, link-one (args .legs .now) (c .before .before .before .before .before .before .before .before .before .before .before .before .before .before .before .before .pre .0) (loop .k) (c .before .before .before .before .before .before .before .before .before .before .before .before .loop-test .taken) (loop .inv .0) (loop .head) (loop .next) (loop .follow) (loop .jump) (loop .depth) (loop .inv .1) (leg .result .from) (leg .result .to) (leg .result .arrive .0) _ _ (leg .ensures .from) (leg .ensures .to) (leg .ensures .arrive) (c .before .before .before .before .first-from .ensures) (c .jump-of .ensures))
+    (omega arith, link-one (args .legs .now) (c .before .before .before .before .before .before .before .before .before .before .before .before .before .before .before .before .pre .0) (loop .k) (c .before .before .before .before .before .before .before .before .before .before .before .before .loop-test .taken) (loop .inv .0) (loop .head) (loop .next) (loop .follow) (loop .jump) (loop .depth) (loop .inv .1) (leg .result .from) (leg .result .to) (leg .result .arrive .0) _ _ (leg .ensures .from) (leg .ensures .to) (leg .ensures .arrive) (c .before .before .before .before .first-from .ensures) (c .jump-of .ensures), beside-one _ (loop .k) _ _ _ (c .before .before .before .before .before .before .before .before .before .before .before .before .loop-test .taken) (loop .inv .0) (loop .inv .2), beside-one _ (loop .k) _ _ _ (c .before .before .before .before .before .before .before .before .before .before .before .before .loop-test .taken) (loop .inv .0) (loop .inv .3))
 
 returns : tie.Need-returns Inv-loop μ-loop
 returns c =
     let loop = c .before .loop in
     let z : loop .k ≡ 0 = omega arith in
-    rw z at (loop .inv .1 .linked)
+    record { linked = rw z at (loop .inv .1 .linked); head-length = loop .inv .1 .head-long; next-kept = rw z at (loop .inv .2); follow-kept = rw z at (loop .inv .3) }
 
 pub link-spec : {M : Type 1} → statement M
 link-spec =
