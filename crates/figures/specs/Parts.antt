@@ -1,7 +1,8 @@
 -- The table in the parts in which the calls check it, and what the first part leaves.
 use Prim.Native.Nat.{ℕ, _+_, _*_, _/_, _≤_, _<_}
 use mathlib.Core.Path.{_≡_}
-use mathlib.Core.List.{List, [], _∷_}
+use mathlib.Core.Logic.{_⊎_}
+use mathlib.Core.List.{List, [], _∷_, _++_}
 use lib.ListN.{length, take}
 use Rattle.rules.specs.Clock.{horizon}
 use Rattle.rules.specs.Day.{mostStops, mostRows, rowWidth, Row, rowsOf, Ask, asker's-rows}
@@ -24,10 +25,13 @@ listChecks list n = check-1 list ∷ check-2 list ∷ check-3 n ∷ []
 abbrev pub plainChecks : Ask → List Check
 plainChecks q = check-1 (q .list) ∷ check-2 (q .list) ∷ check-3 (q .n) ∷ check-4 (q .asker) ∷ check-5 (q .A) (q .W) ∷ []
 
+-- number 6
+abbrev pub ownCheck : Ask → List Check
+ownCheck q = check-6 (q .n) (asker's-rows q) ∷ []
+
 -- numbers 1 to 6
 abbrev pub firstChecks : Ask → List Check
-firstChecks q =
-    check-1 (q .list) ∷ check-2 (q .list) ∷ check-3 (q .n) ∷ check-4 (q .asker) ∷ check-5 (q .A) (q .W) ∷ check-6 (q .n) (asker's-rows q) ∷ []
+firstChecks q = plainChecks q ++ ownCheck q
 
 -- numbers 7 to 12: they read own rows and no others
 abbrev pub lastChecks : List Row → (n A W : ℕ) → Takes → List Check
@@ -48,10 +52,13 @@ pub record Ready (n A W : ℕ) (rows : List ℕ) : Type 0 where
   pub in-order : A ≤ W
   pub in-day : W ≤ horizon
 
--- numbers 1 to 6 by cases: the asker's rows in the front of the room, or a refusal
+-- numbers 1 to 6 by cases: the asker's rows in the front of the room, or a refusal; by numbers 1 to 5 with the room unchanged,
+-- or by number 6 with the rows in it
 abbrev pub Prepares : Ask → (old : List ℕ) → Prepared → (new : List ℕ) → Type 0
 Prepares q old (prepared.Rows k) new = Clear (firstChecks q) × Copied rowWidth numbers (asker's-rows q) old k new
-Prepares q old (prepared.Refused number place) new = Refuses (firstChecks q) number place
+Prepares q old (prepared.Refused number place) new =
+    (Refuses (plainChecks q) number place × (new ≡ old))
+    ⊎ (Clear (plainChecks q) × Refuses (ownCheck q) number place × ((k : ℕ) × Copied rowWidth numbers (asker's-rows q) old k new))
 
 -- the legs of some rows stand in the front of a room, up to `end`, and are linked
 pub record LegsLaid (A W : ℕ) (rs : List Row) (legs next follow : List ℕ) (end : ℕ) (legs′ head′ next′ follow′ : List ℕ) : Type 0 where

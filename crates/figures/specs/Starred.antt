@@ -5,7 +5,7 @@ use mathlib.Core.Option.{Option, none, some}
 use Rattle.rules.specs.Day.{Ask, asker's-day}
 use Rattle.rules.specs.Routes.{Dist, unreached, after, Earliest}
 use Rattle.rules.specs.Eccentricity.{Forward, Backward}
-use Rattle.rules.specs.Diameter.{Shown, NoneShown}
+use Rattle.rules.specs.Diameter.{Targets, Shown, NoneShown}
 use Rattle.rules.specs.Figures.{Pairs, Bounds, JoinedPairs, PivotBounds}
 
 unfoldable pub dayD : List ℕ
@@ -32,6 +32,7 @@ pub data Case : Type 0 where
   pivot-diameter : (asker A W : ℕ) → List ℕ → (d u v visits : ℕ) → Case
   pivot-none : (asker A W : ℕ) → List ℕ → (visits : ℕ) → Case
   pivot-bound : (asker A W : ℕ) → List ℕ → (v b : ℕ) → Case
+  pivot-targets : (asker A W : ℕ) → List ℕ → (targets : List ℕ) → Case
 
 -- the list gives the figures of the stops from v on
 abbrev pub From : (Is : ℕ → Dist → Type 0) (v : ℕ) → List Dist → Type 0
@@ -46,6 +47,7 @@ Holds (diameter asker A W d u v k) = Shown (Pairs (onDayD asker A W)) (Bounds (o
 Holds (pivot-diameter asker A W ps d u v k) = Shown (JoinedPairs (onDayD asker A W) ps) (PivotBounds (onDayD asker A W) ps) d u v k
 Holds (pivot-none asker A W ps k) = NoneShown (JoinedPairs (onDayD asker A W) ps) (PivotBounds (onDayD asker A W) ps) k
 Holds (pivot-bound asker A W ps v b) = PivotBounds (onDayD asker A W) ps v b
+Holds (pivot-targets asker A W ps vs) = Targets (PivotBounds (onDayD asker A W) ps) vs
 
 abbrev pub Each : List Case → Type 0
 Each [] = Unit {0}
@@ -79,8 +81,10 @@ starred =
     ∷ distances-from 9 100 100 4 (unreached ∷ unreached ∷ unreached ∷ unreached ∷ after 0 ∷ [])
     ∷ pivot-diameter 0 100 199 (2 ∷ 150 ∷ []) 90 0 3 1
     ∷ pivot-diameter 0 100 199 (2 ∷ 149 ∷ []) 60 2 3 1
+    ∷ pivot-targets 0 100 199 (2 ∷ 149 ∷ []) (3 ∷ 2 ∷ [])
     ∷ pivot-bound 0 100 199 (2 ∷ 149 ∷ []) 3 90
     ∷ pivot-diameter 0 100 300 (3 ∷ 250 ∷ 2 ∷ 150 ∷ []) 105 0 4 2
+    ∷ pivot-targets 0 100 300 (3 ∷ 250 ∷ 2 ∷ 150 ∷ []) (3 ∷ 4 ∷ 2 ∷ [])
     ∷ pivot-bound 0 100 300 (3 ∷ 250 ∷ 2 ∷ 150 ∷ []) 3 150
     ∷ pivot-bound 0 100 300 (3 ∷ 250 ∷ 2 ∷ 150 ∷ []) 4 105
     ∷ pivot-bound 0 100 300 (3 ∷ 250 ∷ 2 ∷ 150 ∷ []) 2 50

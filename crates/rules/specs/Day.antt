@@ -90,9 +90,10 @@ pub record Ask : Type 0 where
   pub A : ℕ
   pub W : ℕ
 
--- the day as the asker sees it: the asker's rows and no others
+-- the rows that the asker sees
 abbrev pub asker's-rows : Ask → List Row
 asker's-rows q = own (q .asker) (rowsOf (q .list))
 
+-- the day as the asker sees it: the asker's rows and no others
 abbrev pub asker's-day : Ask → Day
 asker's-day q = record { rows = asker's-rows q }

@@ -4,7 +4,7 @@ use mathlib.Core.Path.{_≡_}
 use mathlib.Core.Logic.{_↔_}
 use mathlib.Core.List.{List, [], _∷_, List·Memᴰ}
 use mathlib.Core.Option.{Option, none, some}
-use Rattle.rules.specs.Words.{Least, Greatest, GreatestIfAny}
+use Rattle.rules.specs.Words.{Least, Greatest}
 use Rattle.rules.specs.Day.{Row, arrival, Day}
 use Rattle.rules.specs.Eccentricity.{Backward}
 

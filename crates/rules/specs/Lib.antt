@@ -1,4 +1,4 @@
--- Document 01 as definitions, one file a section; `Laws` holds what is proved of them.
+-- Document 01 as definitions, in the order of its sections; `Laws` holds what is proved of them.
 pub mod Words
 pub mod Clock
 pub mod Day

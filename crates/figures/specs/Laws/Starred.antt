@@ -12,7 +12,7 @@ use Rattle.rules.specs.Clock.{horizon}
 use Rattle.rules.specs.Day.{Row, rowsOf, own}
 use Rattle.rules.specs.Routes.{Dist, unreached, after, Earliest}
 use Rattle.rules.specs.Eccentricity.{Forward, Backward}
-use Rattle.rules.specs.Diameter.{Shown, NoneShown}
+use Rattle.rules.specs.Diameter.{Targets, Shown, NoneShown}
 use Rattle.rules.specs.Pivots.{Pivot, pivotsOf}
 use Rattle.rules.specs.Figures.{Pairs, Bounds, JoinedPairs, PivotBounds}
 use Rattle.rules.specs.Laws.Good.{Good, good-none, good-more}
@@ -24,12 +24,12 @@ use Rattle.passes.specs.Laws.Distance.{since, dist, dist-right}
 use Rattle.search.specs.Visits.{begun, visited}
 use Rattle.search.specs.declared.state.Search.{Search}
 use Rattle.search.specs.Laws.Greatest.{greatestOf, stops, isValue, leastOf, eccTo, eccFrom, not-both, forward-right, backward-right}
-use Rattle.search.specs.Laws.Order.{insert, order}
+use Rattle.search.specs.Laws.Order.{insert, order, order-right}
 use Rattle.search.specs.Laws.Pairs.{both, pairOf, entryOf, boundOf, pairs-told, anyOf, joinb, joinedPairOf, underOf, pivotBoundOf, pivot-bounds-told}
 use Rattle.search.specs.Laws.Visiting.{run, Right}
 use Rattle.search.specs.Laws.Bounded.{farOf, farthestOf, farthestJoined}
 use Rattle.search.specs.Laws.Searched.{diameter-visited, pivot-diameter-visited}
-use Rattle.figures.specs.Starred.{dayD, onDayD, Case, distances-from, forward, backward, diameter, pivot-diameter, pivot-none, pivot-bound, From, Holds, Each, starred}
+use Rattle.figures.specs.Starred.{dayD, onDayD, Case, distances-from, forward, backward, diameter, pivot-diameter, pivot-none, pivot-bound, pivot-targets, From, Holds, Each, starred}
 
 -- equal, for each kind of figure
 unfoldable pub sameDist : Dist → Dist → Bool
@@ -57,6 +57,19 @@ same-figure none none e = refl
 same-figure none (some d) e = not-both e refl
 same-figure (some d) none e = not-both e refl
 same-figure (some d) (some f) e = ap some (eqb-true d f e)
+
+unfoldable pub sameStops : List ℕ → List ℕ → Bool
+sameStops [] [] = true
+sameStops [] (v ∷ vs) = false
+sameStops (u ∷ us) [] = false
+sameStops (u ∷ us) (v ∷ vs) = eqb u v && sameStops us vs
+
+same-stops : (us vs : List ℕ) → sameStops us vs ≡ true → us ≡ vs
+unfolding sameStops
+same-stops [] [] e = refl
+same-stops [] (v ∷ vs) e = not-both e refl
+same-stops (u ∷ us) [] e = not-both e refl
+same-stops (u ∷ us) (v ∷ vs) e = let a = both (eqb u v) (sameStops us vs) e in cc (eqb-true u v (a .0), same-stops us vs (a .1))
 
 -- a state of a search has this value, pair and count; or none and this count
 unfoldable pub shows : (d u v k : ℕ) → Search → Bool
@@ -156,6 +169,8 @@ test (pivot-none asker A W ps k) =
     && showsNone k (pivotsD asker A W ps))
 test (pivot-bound asker A W ps v b) =
     fits asker A W && (sitsb 5 A W (pivotsOf ps) && (ltb v 5 && sameFigure (pivotBoundOf (rowsD asker) A W 5 (pivotsOf ps) v) (some b)))
+test (pivot-targets asker A W ps vs) =
+    fits asker A W && (sitsb 5 A W (pivotsOf ps) && sameStops (order (pivotBoundOf (rowsD asker) A W 5 (pivotsOf ps)) 5) vs)
 
 pub record Fits (asker A W : ℕ) : Type 0 where
   pub good : Good 5 (rowsD asker)
@@ -220,6 +235,12 @@ holds (pivot-bound asker A W ps v b) e =
     let z = both (ltb v 5) _ (y .1) in
     let f : Fits asker A W = fits-of asker A W (x .0) in
     pivot-bounds-told (rowsD asker) A W 5 (f .good) (f .aw) (f .wh) (pivotsOf ps) (sits-of 5 A W (pivotsOf ps) (y .0)) .holds v b (ltb-true v 5 (z .0)) (same-figure _ (some b) (z .1))
+holds (pivot-targets asker A W ps vs) e =
+    let x = both (fits asker A W) _ e in
+    let y = both (sitsb 5 A W (pivotsOf ps)) _ (x .1) in
+    let f : Fits asker A W = fits-of asker A W (x .0) in
+    subst (Targets (PivotBounds (onDayD asker A W) ps)) (same-stops _ vs (y .1))
+    (order-right 5 (pivotBoundOf (rowsD asker) A W 5 (pivotsOf ps)) (pivot-bounds-told (rowsD asker) A W 5 (f .good) (f .aw) (f .wh) (pivotsOf ps) (sits-of 5 A W (pivotsOf ps) (y .0))))
 
 unfoldable pub testAll : List Case → Bool
 testAll [] = true
@@ -231,7 +252,7 @@ each [] e = tt
 each (c ∷ cs) e = let a = both (test c) (testAll cs) e in (holds c (a .0), each cs (a .1))
 
 computed : testAll starred ≡ true
-unfolding testAll test fits along rowsD dayD thingsFrom own goodb soundb sitsb pivotsOf sameDist sameFigure shows showsNone diameterD pivotsD dist since pass step usable init pairOf entryOf boundOf anyOf joinb joinedPairOf underOf pivotBoundOf greatestOf stops insert order isValue leastOf eccTo eccFrom farOf run visited
+unfolding testAll test fits along rowsD dayD thingsFrom own goodb soundb sitsb pivotsOf sameDist sameFigure sameStops shows showsNone diameterD pivotsD dist since pass step usable init pairOf entryOf boundOf anyOf joinb joinedPairOf underOf pivotBoundOf greatestOf stops insert order isValue leastOf eccTo eccFrom farOf run visited
 computed = refl
 
 pub starred-hold : Each starred
