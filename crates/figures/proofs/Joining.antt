@@ -19,7 +19,7 @@ use Rattle.search.specs.Targets.{beforeAll}
 use Rattle.search.specs.Visits.{begun, searched}
 use Rattle.search.specs.Farthest.{farthestIn}
 use Rattle.search.specs.Pivots.{LaidOut, boundsUnder, joinedb, keptAt, keptJoined}
-use Rattle.search.specs.Laws.Pairs.{JoinedPairs}
+use Rattle.search.specs.Laws.Pairs.{ReachedJoined}
 use Rattle.search.specs.Laws.Visiting.{IsFar, Right}
 use Rattle.search.specs.Laws.Order.{TellsBounds}
 use Rattle.search.specs.Laws.Entered.{boundAt}
@@ -51,21 +51,21 @@ module _ (n A W : ℕ) (rows : List ℕ) (r : Ready n A W rows) (pivots : List �
   laid-in : LaidOut n (pivotsOf pivots) (intoPivot n A (legsOf A W rs)) into
   laid-in = subst (λ (ls : List Row). LaidOut n (pivotsOf pivots) (intoPivot n A ls) into) e in-time
 
-  joined-far : (v : ℕ) → v < n → IsFar (JoinedPairs rs A W n (pivotsOf pivots)) v (farKept ls onward into (length (pivotsOf pivots)) n v)
+  joined-far : (v : ℕ) → v < n → IsFar (ReachedJoined rs A W n (pivotsOf pivots)) v (farKept ls onward into (length (pivotsOf pivots)) n v)
   joined-far v vl =
-      subst (λ (ls : List Row). IsFar (JoinedPairs rs A W n (pivotsOf pivots)) v (farKept ls onward into (length (pivotsOf pivots)) n v)) (sym e)
-      (subst (λ (ds : List ℕ). IsFar (JoinedPairs rs A W n (pivotsOf pivots)) v (farthestIn ds v n))
+      subst (λ (ls : List Row). IsFar (ReachedJoined rs A W n (pivotsOf pivots)) v (farKept ls onward into (length (pivotsOf pivots)) n v)) (sym e)
+      (subst (λ (ds : List ℕ). IsFar (ReachedJoined rs A W n (pivotsOf pivots)) v (farthestIn ds v n))
       (append-nil (keptJoined onward into (length (pivotsOf pivots)) n v (distancesTo v (legsOf A W rs) n 0)))
       (farthest-kept rs A W n (r .good) (r .in-order) (r .in-day) (pivotsOf pivots) sit onward laid-on into laid-in v vl (distancesTo v (legsOf A W rs) n 0) []
       (λ u ul. distances-right rs A W n v u (r .good) (r .in-order) (r .in-day) ul)))
 
   -- the search over the bounds under the pivots ends with the pivot-diameter
   pub joined-right : (count : ℕ) → length (pivotsOf pivots) ≡ count → (t bs : List ℕ) → bs ≡ boundsUnder onward count n ++ t
-      → Right (JoinedPairs rs A W n (pivotsOf pivots)) (LatestUnder (rowsDay rs) A W (pivotsOf pivots)) (searched (farKept ls onward into count n) bs n n beforeAll begun)
+      → Right (ReachedJoined rs A W n (pivotsOf pivots)) (LatestUnder (rowsDay rs) A W (pivotsOf pivots)) (searched (farKept ls onward into count n) bs n n beforeAll begun)
   joined-right count ec t bs =
       subst
       (λ (count : ℕ). bs ≡ boundsUnder onward count n ++ t
-      → Right (JoinedPairs rs A W n (pivotsOf pivots)) (LatestUnder (rowsDay rs) A W (pivotsOf pivots)) (searched (farKept ls onward into count n) bs n n beforeAll begun))
+      → Right (ReachedJoined rs A W n (pivotsOf pivots)) (LatestUnder (rowsDay rs) A W (pivotsOf pivots)) (searched (farKept ls onward into count n) bs n n beforeAll begun))
       ec
       (λ eb. pivot-diameter-searched rs A W n (r .good) (r .in-order) (r .in-day) (pivotsOf pivots) sit bs
       (subst (λ (bs : List ℕ). TellsBounds n (boundAt bs) (LatestUnder (rowsDay rs) A W (pivotsOf pivots))) (sym eb)

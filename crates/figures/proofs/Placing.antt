@@ -1,16 +1,17 @@
 -- A pivot's numbers put among those of others.
 use Prim.Native.Nat.{ℕ, _+_, _*_, _-_, _/_, _≤_, _<_}
-use mathlib.Core.Path.{_≡_, ap, _∙_}
+use mathlib.Core.Path.{_≡_, refl, ap, _∙_}
+use mathlib.Core.Logic.{_≢_}
 use mathlib.Core.List.{List, _++_, append-nil}
 use native.Mathlib.Omega.{arith}
-use native.Mathlib.Decide.{ℕ-discrete}
+use native.Mathlib.Decide.{ℕ-discrete, decLt}
 use lib.ListN.{length, getD, take, drop, length-append, length-drop, drop-of-length-le, List·getD-append}
-use lib.Seq.{getD-append-add, getD-take, length-take-le, take-all, drop-drop}
+use lib.Seq.{getD-append-add, getD-drop, getD-take, length-take-le, take-all, drop-drop}
 use Rattle.rules.specs.Day.{mostStops}
 use Rattle.rules.specs.Pivots.{Pivot, pivotsOf}
 use Rattle.rules.specs.Laws.Good.{at-same, at-below, at-member}
 use Rattle.rules.specs.Laws.Joined.{Sits}
-use Rattle.search.specs.Pivots.{pivotNumber, pivotPlaces, LaidOut}
+use Rattle.search.specs.Pivots.{pivotNumber, pivotPlaces, LaidOut, Apart}
 use Rattle.figures.specs.Pivots.{pivotWidth, AllSit, putAt}
 use Rattle.figures.proofs.Pivoting.{pivotAt, pivots-at, length-pivots}
 
@@ -36,6 +37,17 @@ module _ (at n : ℕ) (part old : List ℕ) (long : length part ≡ n) (room : a
       let e : length (take at old) ≡ at = length-take-le at old (omega arith) in
       (rw e at (getD-append-add (take at old) (part ++ drop (at + n) old) v 0)) ∙ List·getD-append part (drop (at + n) old) 0 v (omega arith)
 
+  put-past : (k : ℕ) → getD (putAt at n part old) (at + (n + k)) 0 ≡ getD old (at + n + k) 0
+  put-past k =
+      let e : length (take at old) ≡ at = length-take-le at old (omega arith) in
+      (rw e at (getD-append-add (take at old) (part ++ drop (at + n) old) (n + k) 0)) ∙ ((rw long at (getD-append-add part (drop (at + n) old) k 0)) ∙ getD-drop (at + n) old k 0)
+
+  put-after : (j : ℕ) → at + n ≤ j → getD (putAt at n part old) j 0 ≡ getD old j 0
+  put-after j h =
+      let e : j ≡ at + (n + (j - (at + n))) = omega arith in
+      let f : at + n + (j - (at + n)) ≡ j = omega arith in
+      ap (λ (x : ℕ). getD (putAt at n part old) x 0) e ∙ (put-past (j - (at + n)) ∙ ap (λ (x : ℕ). getD old x 0) f)
+
 -- the numbers of the first i pivots stand at their places
 abbrev pub Placed : (n : ℕ) (pivots : List ℕ) (numbers : Pivot → List ℕ) (i : ℕ) → List ℕ → Type 0
 Placed n pivots numbers i list = (j : ℕ) → j < i → (v : ℕ) → v < n → pivotNumber list j v ≡ getD (numbers (pivotAt pivots j)) v 0
@@ -56,6 +68,23 @@ module _ (n : ℕ) (pivots : List ℕ) (numbers : Pivot → List ℕ) where
             let inside : j < length pivots / pivotWidth = omega (arith, at-below a, length-pivots pivots) in
             before j (omega arith) v h ∙ ap (λ (q : Pivot). getD (numbers q) v 0) (at-same (pivots-at pivots j inside) a);
       }
+
+-- one pivot more, and the rest of the list is still kept
+pub apart-more : (n i : ℕ) (part old now new : List ℕ) → i * pivotPlaces + n ≤ length now → length part ≡ n → new ≡ putAt (i * pivotPlaces) n part now
+    → Apart n i old now → Apart n (i + 1) old new
+apart-more n i part old now new room long e before =
+    record {
+      same-length = ap length e ∙ (put-length (i * pivotPlaces) n part now long room ∙ before .same-length);
+      kept = λ j h. rw e (go j h (decLt j (i * pivotPlaces)) (decLt j (i * pivotPlaces + n)));
+    }
+  where
+    go : (j : ℕ) → ((k v : ℕ) → k < i + 1 → v < n → j ≢ k * pivotPlaces + v) → Dec (j < i * pivotPlaces) → Dec (j < i * pivotPlaces + n) → getD (putAt (i * pivotPlaces) n part now) j 0 ≡ getD old j 0
+    go j h (yes l) d = put-before (i * pivotPlaces) n part now long room j l ∙ before .kept j (λ k v kl vl. h k v (omega arith) vl)
+    go j h (no l) (no d) = put-after (i * pivotPlaces) n part now long room j (omega arith) ∙ before .kept j (λ k v kl vl. h k v (omega arith) vl)
+    go j h (no l) (yes d) = absurd (h i (j - i * pivotPlaces) (omega arith) (omega arith) (omega arith))
+
+pub apart-none : (n : ℕ) (old : List ℕ) → Apart n 0 old old
+apart-none n old = record { same-length = refl; kept = λ j h. refl }
 
 -- pivot i sits
 pub pivot-sits : (n A W : ℕ) (pivots : List ℕ) (i : ℕ) → AllSit n A W pivots → i < length pivots / pivotWidth → Sits n A W (pivotAt pivots i)

@@ -14,11 +14,12 @@ use Rattle.rules.specs.Table.{Takes, check-1, check-2, table, Clear, Refuses}
 use Rattle.rules.specs.Laws.Good.{none-if-no-least, faultless-good}
 use Rattle.rules.specs.Laws.Rows.{length-rows, length-numbers, rows-of-numbers}
 use Rattle.rules.specs.Laws.Isolated.{own-shorter}
-use Rattle.rules.specs.Laws.Checks.{refuses-first, refuses-then}
+use Rattle.rules.specs.Laws.Checks.{refuses-first}
 use Rattle.rules.specs.Laws.Written.{copied-front}
 use Rattle.figures.specs.declared.ask.Prepared.{Prepared}
 use Rattle.figures.specs.declared.ask.Prepared.the-variants as prepared
-use Rattle.figures.specs.Parts.{plainChecks, ownCheck, firstChecks, lastChecks, Ready, Prepares}
+use Rattle.figures.specs.Parts.{firstChecks, lastChecks, Ready, Prepares}
+use Rattle.figures.specs.Laws.Inner.{first-refused}
 use Rattle.figures.proofs.Judging.{few-rows}
 
 -- a list that passes 1 and 2 has at most 10,240 numbers
@@ -59,10 +60,6 @@ ready q c =
     day (yes l) = l
     day (no l) = absurd (c .1 .1 .1 .1 .0 0 (refl, inr (omega arith)))
 
-refused-first : (q : Ask) (old new : List ℕ) (number place : ℕ) → Prepares q old (prepared.Refused number place) new → Refuses (firstChecks q) number place
-refused-first q old new number place (inl h) = refuses-first (plainChecks q) (ownCheck q) number place (h .0)
-refused-first q old new number place (inr h) = refuses-then (plainChecks q) (ownCheck q) number place (h .0) (h .1)
-
 -- what a caller learns of the first checks, by how they came out
 pub told-rows : (q : Ask) (old : List ℕ) (p : Prepared) (new : List ℕ) (k : ℕ) → Prepares q old p new → p ≡ prepared.Rows k
     → Clear (firstChecks q) × Copied rowWidth numbers (asker's-rows q) old k new
@@ -71,7 +68,7 @@ told-rows q old p new k h e = subst (λ (p : Prepared). Prepares q old p new) e 
 pub told-unprepared : (q : Ask) (t : Takes) (old : List ℕ) (p : Prepared) (new : List ℕ) (number place : ℕ) → Prepares q old p new → p ≡ prepared.Refused number place
     → Refuses (table q t) number place
 told-unprepared q t old p new number place h e =
-    refuses-first (firstChecks q) (lastChecks (asker's-rows q) (q .n) (q .A) (q .W) t) number place (refused-first q old new number place (subst (λ (p : Prepared). Prepares q old p new) e h))
+    refuses-first (firstChecks q) (lastChecks (asker's-rows q) (q .n) (q .A) (q .W) t) number place (first-refused q old new number place (subst (λ (p : Prepared). Prepares q old p new) e h))
 
 -- the part of the room that holds the asker's rows
 module _ (q : Ask) (old : List ℕ) (k : ℕ) (new : List ℕ) (clear : Clear (firstChecks q)) (copied : Copied rowWidth numbers (asker's-rows q) old k new) where

@@ -1,5 +1,6 @@
 -- Laws of the promises.
 pub mod Unique
+pub mod Inner
 pub mod Exists
 pub mod Isolated
 pub mod Numbers

@@ -7,7 +7,7 @@ ghost use Rattle.rules.specs.Day.{rowsOf};
 ghost use Rattle.rules.specs.Pivots.{mostPivots, pivotsOf, LatestUnder};
 ghost use Rattle.rules.specs.Lent.{scratchPlaces, Wiped};
 ghost use Rattle.passes.specs.Laws.Chains.{rowsDay};
-ghost use Rattle.search.specs.Laws.Pairs.{JoinedPairs};
+ghost use Rattle.search.specs.Laws.Pairs.{ReachedJoined};
 ghost use Rattle.search.specs.Laws.Visiting.{Right};
 ghost use Rattle.figures.specs.Parts.{Ready, lastChecks};
 ghost use Rattle.figures.specs.Pivots.{pivotWidth, AllSit};
@@ -32,7 +32,7 @@ use search::pivot_bounds;
 fn search_joined(rows: &[u32], n: u32, a: u32, w: u32, pivots: &[u32]) -> Search
     requires { ⌜ Ready n a w (now rows) ⌝ }
     requires { ⌜ (length (now pivots) / pivotWidth ≤ mostPivots) × AllSit n a w (now pivots) ⌝ }
-    ensures { λ r. ⌜ Right (JoinedPairs (rowsOf (now (rows .entry))) a w n (pivotsOf (now (pivots .entry)))) (LatestUnder (rowsDay (rowsOf (now (rows .entry)))) a w (pivotsOf (now (pivots .entry)))) r ⌝ }
+    ensures { λ r. ⌜ Right (ReachedJoined (rowsOf (now (rows .entry))) a w n (pivotsOf (now (pivots .entry)))) (LatestUnder (rowsDay (rowsOf (now (rows .entry)))) a w (pivotsOf (now (pivots .entry)))) r ⌝ }
 {
     let stops = n as usize;
     let mut legs = [0u32; 8192];
@@ -69,7 +69,7 @@ fn own_pivot_diameter(
     scratch: &mut [u32],
 ) -> Answer
     requires { ⌜ Ready n a w (now rows) ⌝ }
-    ensures { λ r. ⌜ FulfilsSearch (lastChecks (rowsOf (now (rows .entry))) n a w (takes [] (now (pivots .entry)) (room (now (scratch .entry)) scratchPlaces ∷ []))) (JoinedPairs (rowsOf (now (rows .entry))) a w n (pivotsOf (now (pivots .entry)))) (LatestUnder (rowsDay (rowsOf (now (rows .entry)))) a w (pivotsOf (now (pivots .entry)))) (Wiped (now (scratch .entry)) (now (scratch .exit))) (now (scratch .exit) ≡ now (scratch .entry)) r ⌝ }
+    ensures { λ r. ⌜ FulfilsSearch (lastChecks (rowsOf (now (rows .entry))) n a w (takes [] (now (pivots .entry)) (room (now (scratch .entry)) scratchPlaces ∷ []))) (ReachedJoined (rowsOf (now (rows .entry))) a w n (pivotsOf (now (pivots .entry)))) (LatestUnder (rowsDay (rowsOf (now (rows .entry)))) a w (pivotsOf (now (pivots .entry)))) (Wiped (now (scratch .entry)) (now (scratch .exit))) (now (scratch .exit) ≡ now (scratch .entry)) r ⌝ }
 {
     let v = pivots_check(pivots, n, a, w);
     if let Verdict::Refused { number, place } = v {

@@ -10,7 +10,7 @@ ghost use Rattle.passes.specs.Links.{linkPlaces};
 ghost use Rattle.passes.specs.Forward.{init, passed};
 ghost use Rattle.passes.specs.Reach.{reachInit, reachedBack};
 ghost use Rattle.passes.specs.Pivots.{onwardPivot, intoPivot};
-ghost use Rattle.search.specs.Pivots.{allPlaces, LaidOut};
+ghost use Rattle.search.specs.Pivots.{allPlaces, PivotsLaid};
 ghost use Rattle.figures.specs.Parts.{Ready, LegsLaid};
 ghost use Rattle.figures.specs.Pivots.{pivotWidth, AllSit, putAt};
 use crate::pivots::PIVOT_WIDTH;
@@ -74,8 +74,8 @@ pub fn lay_pivots(
     requires { ⌜ (n ≤ mostStops) × Laid n (now legs) ⌝ }
     requires { ⌜ (length (now pivots) / pivotWidth ≤ mostPivots) × AllSit n a horizon (now pivots) ⌝ }
     requires { ⌜ (allPlaces ≤ length (now onward)) × (allPlaces ≤ length (now into)) ⌝ }
-    ensures { λ _. ⌜ LaidOut n (pivotsOf (now (pivots .entry))) (onwardPivot n a (legsIn (now (legs .entry)))) (now (onward .exit)) ⌝ }
-    ensures { λ _. ⌜ LaidOut n (pivotsOf (now (pivots .entry))) (intoPivot n a (legsIn (now (legs .entry)))) (now (into .exit)) ⌝ }
+    ensures { λ _. ⌜ PivotsLaid n (pivotsOf (now (pivots .entry))) (onwardPivot n a (legsIn (now (legs .entry)))) (now (onward .entry)) (now (onward .exit)) ⌝ }
+    ensures { λ _. ⌜ PivotsLaid n (pivotsOf (now (pivots .entry))) (intoPivot n a (legsIn (now (legs .entry)))) (now (into .entry)) (now (into .exit)) ⌝ }
 {
     let m = pivots.len() / PIVOT_WIDTH;
     let mut i: usize = 0;

@@ -44,8 +44,8 @@ wordsOf (answer.Nothing visits) = letters none ∷ numeral visits ∷ []
 wordsOf (answer.Refused number place) = letters refused ∷ numeral number ∷ numeral place ∷ []
 
 -- how many bytes a line is given
-abbrev pub room : ℕ
-room = 128
+abbrev pub lineRoom : ℕ
+lineRoom = 128
 
 -- the first bytes are the words' line, to its end
 pub record MakesLine (ws : List Word) (end : ℕ) (out : List ℕ) : Type 0 where

@@ -1,8 +1,10 @@
 // What was read so far, in numbers.
+ghost use mathlib.Core.Path.{_≡_};
 ghost use Prim.Native.Nat.{_≤_};
 ghost use Rattle.rules.specs.Day.{mostRows};
 ghost use Rattle.rules.specs.Pivots.{mostPivots};
 ghost use Rattle.figures_program.specs.Room.{longest, InRoom};
+ghost use Rattle.figures_program.specs.Days.{begun, withStops, withRows, withPivots, withLen, onNextLine};
 
 // How many numbers a row and a pivot take, and how many of each are kept.
 pub const ROW_WIDTH: usize = 5;
@@ -46,6 +48,7 @@ pub enum Next {
 impl Day {
     pub fn new() -> Self
         ensures { λ r. ⌜ InRoom r ⌝ }
+        ensures { λ r. ⌜ r ≡ begun ⌝ }
     {
         Day {
             given: false,
@@ -60,6 +63,7 @@ impl Day {
     pub fn with_stops(mut self, n: u32) -> Self
         requires { ⌜ InRoom self ⌝ }
         ensures { λ r. ⌜ InRoom r ⌝ }
+        ensures { λ r. ⌜ r ≡ withStops self n ⌝ }
     {
         self.given = true;
         self.n = n;
@@ -70,6 +74,7 @@ impl Day {
         requires { ⌜ InRoom self ⌝ }
         requires { ⌜ rows ≤ mostRows ⌝ }
         ensures { λ r. ⌜ InRoom r ⌝ }
+        ensures { λ r. ⌜ r ≡ withRows self rows ⌝ }
     {
         self.rows = rows;
         self
@@ -79,6 +84,7 @@ impl Day {
         requires { ⌜ InRoom self ⌝ }
         requires { ⌜ pivots ≤ mostPivots ⌝ }
         ensures { λ r. ⌜ InRoom r ⌝ }
+        ensures { λ r. ⌜ r ≡ withPivots self pivots ⌝ }
     {
         self.pivots = pivots;
         self
@@ -88,6 +94,7 @@ impl Day {
         requires { ⌜ InRoom self ⌝ }
         requires { ⌜ len ≤ longest ⌝ }
         ensures { λ r. ⌜ InRoom r ⌝ }
+        ensures { λ r. ⌜ r ≡ withLen self len ⌝ }
     {
         self.len = len;
         self
@@ -97,6 +104,7 @@ impl Day {
     pub fn on_next_line(mut self) -> Self
         requires { ⌜ InRoom self ⌝ }
         ensures { λ r. ⌜ InRoom r ⌝ }
+        ensures { λ r. ⌜ r ≡ onNextLine self ⌝ }
     {
         self.line = std::num::wrapping_add_u64(self.line, 1);
         self.len = 0;

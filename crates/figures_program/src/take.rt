@@ -1,5 +1,7 @@
 // Frames, taken one after another: stops, rows and pivots are kept, an ask is answered.
+ghost use mathlib.Core.Path.{_≡_};
 ghost use Rattle.figures_program.specs.Room.{InRoom, GoesOn};
+ghost use Rattle.figures_program.specs.declared.day.Next.the-variants.{Stop};
 use crate::day::Day;
 use crate::day::List;
 use crate::day::MOST_PIVOTS;
@@ -16,6 +18,7 @@ use frames::Frame;
 // At a line that is no frame, or one too many.
 pub fn stop(day: Day) -> Next
     ensures { λ r. ⌜ GoesOn r ⌝ }
+    ensures { λ r. ⌜ r ≡ Stop ⌝ }
 {
     print_frame(day.line);
     Next::Stop

@@ -2,7 +2,7 @@
 ghost use mathlib.Core.List.{[], _∷_};
 ghost use Prim.Native.Nat.{_+_, _≤_};
 ghost use lib.ListN.{length};
-ghost use Rattle.figures_program.specs.Lines.{letters, numeral, space, none, refused, frame, wordsOf, room, Puts, PutsNumber, MakesLine};
+ghost use Rattle.figures_program.specs.Lines.{letters, numeral, space, none, refused, frame, wordsOf, lineRoom, Puts, PutsNumber, MakesLine};
 use figures::Answer;
 
 // Puts a text at a place, and answers the place after it.
@@ -38,7 +38,7 @@ fn put_field(out: &mut [u8], at: usize, x: u64) -> usize
 }
 
 fn value_line(out: &mut [u8], value: u32, from: u32, to: u32, visits: u32) -> usize
-    requires { ⌜ room ≤ length (now out) ⌝ }
+    requires { ⌜ lineRoom ≤ length (now out) ⌝ }
     ensures { λ r. ⌜ MakesLine (numeral value ∷ numeral from ∷ numeral to ∷ numeral visits ∷ []) r (now (out .exit)) ⌝ }
 {
     let a = put_number(out, 0, value as u64);
@@ -49,7 +49,7 @@ fn value_line(out: &mut [u8], value: u32, from: u32, to: u32, visits: u32) -> us
 }
 
 fn nothing_line(out: &mut [u8], visits: u32) -> usize
-    requires { ⌜ room ≤ length (now out) ⌝ }
+    requires { ⌜ lineRoom ≤ length (now out) ⌝ }
     ensures { λ r. ⌜ MakesLine (letters none ∷ numeral visits ∷ []) r (now (out .exit)) ⌝ }
 {
     let a = put(out, 0, b"none");
@@ -58,7 +58,7 @@ fn nothing_line(out: &mut [u8], visits: u32) -> usize
 }
 
 fn refused_line(out: &mut [u8], number: u32, place: u32) -> usize
-    requires { ⌜ room ≤ length (now out) ⌝ }
+    requires { ⌜ lineRoom ≤ length (now out) ⌝ }
     ensures { λ r. ⌜ MakesLine (letters refused ∷ numeral number ∷ numeral place ∷ []) r (now (out .exit)) ⌝ }
 {
     let a = put(out, 0, b"refused");
@@ -69,7 +69,7 @@ fn refused_line(out: &mut [u8], number: u32, place: u32) -> usize
 
 // The line of an answer.
 fn answer_line(out: &mut [u8], answer: Answer) -> usize
-    requires { ⌜ room ≤ length (now out) ⌝ }
+    requires { ⌜ lineRoom ≤ length (now out) ⌝ }
     ensures { λ r. ⌜ MakesLine (wordsOf answer) r (now (out .exit)) ⌝ }
 {
     match answer {
@@ -86,7 +86,7 @@ fn answer_line(out: &mut [u8], answer: Answer) -> usize
 
 // The line that names a line of the input that is no frame.
 fn frame_line(out: &mut [u8], line: u64) -> usize
-    requires { ⌜ room ≤ length (now out) ⌝ }
+    requires { ⌜ lineRoom ≤ length (now out) ⌝ }
     ensures { λ r. ⌜ MakesLine (letters frame ∷ numeral line ∷ []) r (now (out .exit)) ⌝ }
 {
     let a = put(out, 0, b"frame");

@@ -52,9 +52,9 @@ spell [] = []
 spell (f ∷ fs) = digits (f .width) (f .number) ++ spell fs
 
 -- each number is in the range of its digits
-unfoldable pub Fit : List Field → Type 0
-Fit [] = Unit
-Fit (f ∷ fs) = (f .number < 16 ^ f .width) × Fit fs
+unfoldable pub FieldsFit : List Field → Type 0
+FieldsFit [] = Unit
+FieldsFit (f ∷ fs) = (f .number < 16 ^ f .width) × FieldsFit fs
 
 -- the type and the fields, in small letters
 abbrev pub textOf : Frame → List ℕ
@@ -67,7 +67,7 @@ small b = cond (leb 65 b && leb b 90) (b + 32) b
 -- the line is the frame's text, in either case of letter, and each number is in the range of its digits
 pub record IsTextOf (f : Frame) (line : List ℕ) : Type 0 where
   pub frame : 1 ≤ typeOf f
-  pub fit : Fit (fieldsOf f)
+  pub fit : FieldsFit (fieldsOf f)
   pub spelt : map small line ≡ textOf f
 
 -- the frame whose text the line is, or nothing where it is no frame's text

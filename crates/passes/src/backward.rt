@@ -27,7 +27,7 @@ fn arrival_by(leg: Leg, target: u32, x: u32) -> u32
 }
 
 // For each leg the earliest arrival at the target by it or a later leg of its from-stop.
-pub fn sweep(
+fn sweep(
     legs: &[u32],
     next: &[u32; 2049],
     follow: &[u32; 2049],

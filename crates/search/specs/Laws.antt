@@ -12,3 +12,4 @@ pub mod Searched
 pub mod Some
 pub mod Places
 pub mod Pivoted
+pub mod Laid

@@ -2,10 +2,11 @@
 -- arrival at each stop from it, `into` for each pivot a number that is not 0 for each stop that reaches it in time.
 use Prim.Native.Nat.{ℕ, zero, suc, _+_, _*_, _<_}
 use mathlib.Core.Path.{_≡_}
+use mathlib.Core.Logic.{_≢_}
 use mathlib.Core.Bool.{Bool, true, false, cond}
 use mathlib.Core.List.{List}
 use lib.Dec.{eqb}
-use lib.ListN.{getD}
+use lib.ListN.{length, getD}
 use Rattle.rules.specs.Words.{At, thingsFrom}
 use Rattle.rules.specs.Pivots.{Pivot}
 use Rattle.passes.specs.Forward.{nowhere}
@@ -26,6 +27,16 @@ pivotNumber list i v = getD list (i * pivotPlaces + v) 0
 -- the list has for each pivot, at its places, the numbers that are its own
 pub record LaidOut (n : ℕ) (pivots : List Pivot) (numbers : Pivot → List ℕ) (list : List ℕ) : Type 0 where
   pub each : (i : ℕ) (p : Pivot) → At pivots i p → (v : ℕ) → v < n → pivotNumber list i v ≡ getD (numbers p) v 0
+
+-- the places that belong to none of `count` pivots are kept
+pub record Apart (n count : ℕ) (old new : List ℕ) : Type 0 where
+  pub same-length : length new ≡ length old
+  pub kept : (j : ℕ) → ((i v : ℕ) → i < count → v < n → j ≢ i * pivotPlaces + v) → getD new j 0 ≡ getD old j 0
+
+-- the numbers of all pivots were laid out in a list, and the rest of it is kept
+pub record PivotsLaid (n : ℕ) (pivots : List Pivot) (numbers : Pivot → List ℕ) (old new : List ℕ) : Type 0 where
+  pub laid : LaidOut n pivots numbers new
+  pub apart : Apart n (length pivots) old new
 
 -- the later of a bound and the number under one pivot more, where that pivot reaches the stop
 unfoldable pub withPivot : (bound number : ℕ) → ℕ

@@ -9,7 +9,7 @@ use lib.ListN.{length, getD, take, drop, length-append, length-map, take-append-
 use lib.Seq.{take-at, drop-length, drop-drop}
 use Rattle.frames.specs.declared.frame.Frame.{Frame}
 use Rattle.frames.specs.declared.frame.Frame.the-variants.{Stops, Row, Pivot, Ask, Nothing}
-use Rattle.frames.specs.Text.{digit, digits, Field, two, typeOf, fieldsOf, spell, Fit, textOf, small, IsTextOf}
+use Rattle.frames.specs.Text.{digit, digits, Field, two, typeOf, fieldsOf, spell, FieldsFit, textOf, small, IsTextOf}
 use Rattle.frames.specs.Parts.{AllDigits, NumberAt}
 use Rattle.frames.specs.Laws.Digits.{digits-length}
 
@@ -18,8 +18,8 @@ unfoldable pub Stand : (line : List ℕ) (at : ℕ) → List Field → Type 0
 Stand line at [] = length line ≡ at
 Stand line at (f ∷ fs) = NumberAt line at (f .width) (f .number) × Stand line (at + f .width) fs
 
-pub stand-spelt : (line : List ℕ) (at : ℕ) (fs : List Field) → Stand line at fs → Fit fs × (drop at (map small line) ≡ spell fs)
-unfolding Stand Fit spell
+pub stand-spelt : (line : List ℕ) (at : ℕ) (fs : List Field) → Stand line at fs → FieldsFit fs × (drop at (map small line) ≡ spell fs)
+unfolding Stand FieldsFit spell
 stand-spelt line at [] e = (tt, let n : at ≡ length (map small line) = sym e ∙ sym (length-map line small) in rw n (drop-length (map small line)))
 stand-spelt line at (f ∷ fs) (n, rest) =
     let t = stand-spelt line (at + f .width) fs rest in
@@ -29,7 +29,7 @@ stand-spelt line at (f ∷ fs) (n, rest) =
 
 -- a line that begins with a frame's type and goes on with its fields
 pub stand-text : (f : Frame) (line : List ℕ) → 1 ≤ typeOf f → NumberAt line 0 2 (typeOf f) → Stand line 2 (fieldsOf f) → IsTextOf f line
-unfolding Stand Fit spell
+unfolding Stand FieldsFit spell
 stand-text f line h n s =
     let t = stand-spelt line 0 (two (typeOf f) ∷ fieldsOf f) (n, s) in
     record { frame = h; fit = t .0 .1; spelt = t .1 }

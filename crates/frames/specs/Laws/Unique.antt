@@ -6,7 +6,7 @@ use mathlib.Core.Logic.{_⊎_, inl, inr}
 use mathlib.Core.List.{List, [], _∷_}
 use Rattle.frames.specs.declared.frame.Frame.{Frame}
 use Rattle.frames.specs.declared.frame.Frame.the-variants.{Stops, Row, Pivot, Ask, Nothing}
-use Rattle.frames.specs.Text.{digits, Field, typeOf, fieldsOf, spell, Fit, IsTextOf, ReadPromise}
+use Rattle.frames.specs.Text.{digits, Field, typeOf, fieldsOf, spell, FieldsFit, IsTextOf, ReadPromise}
 use Rattle.frames.specs.Laws.Digits.{digits-length, digits-same, split-same}
 use Rattle.frames.specs.Laws.Places.{number-same}
 use Rattle.frames.specs.Laws.Texts.{text-type, widths, widthsFor, frame-widths}
@@ -20,8 +20,8 @@ field-same f g w p q e =
     λ i. record { width = w i; number = n i }
 
 -- fields of the same widths that are spelt alike
-fields-same : (fs gs : List Field) → widths fs ≡ widths gs → Fit fs → Fit gs → spell fs ≡ spell gs → fs ≡ gs
-unfolding Fit spell
+fields-same : (fs gs : List Field) → widths fs ≡ widths gs → FieldsFit fs → FieldsFit gs → spell fs ≡ spell gs → fs ≡ gs
+unfolding FieldsFit spell
 fields-same [] [] w p q e = refl
 fields-same [] (g ∷ gs) w p q e = let z : _≡_ {A = ℕ} 0 1 = cc in absurd (omega arith)
 fields-same (f ∷ fs) [] w p q e = let z : _≡_ {A = ℕ} 0 1 = cc in absurd (omega arith)

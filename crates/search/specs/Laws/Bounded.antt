@@ -19,7 +19,7 @@ use Rattle.passes.specs.Laws.Chains.{rowsDay}
 use Rattle.passes.specs.Laws.Distance.{dist}
 use Rattle.search.specs.declared.far.Far.{Far}
 use Rattle.search.specs.Laws.Greatest.{TellsPairs, isValue, leastOf, least-below, LeastBelow, is-value, value-is, eccTo, backward-right, not-both}
-use Rattle.search.specs.Laws.Pairs.{ReachedPairs, JoinedPairs, last-row, pairOf, joinedPairOf, boundOf, bound-greatest, pivotBoundOf, pivot-bound-greatest, onward-dist, flip, reachedb, reached-yes}
+use Rattle.search.specs.Laws.Pairs.{ReachedPairs, ReachedJoined, last-row, pairOf, joinedPairOf, boundOf, bound-greatest, pivotBoundOf, pivot-bound-greatest, onward-dist, flip, reachedb, reached-yes}
 use Rattle.search.specs.Laws.Visiting.{IsFar}
 
 last-start : {rs : List Row} {f l : Row} → Route (rowsDay rs) f l → f .start ≤ l .start
@@ -93,7 +93,7 @@ module _ (rs : List Row) (A W n : ℕ) (g : Good n rs) (aw : A ≤ W) (wh : W �
       let starts : p .reading ≤ arrival (l .holds .0 .last) = omega (arith, last-start (l .holds .0 .route), l .holds .0 .begins) in
       omega (arith, least-of (h .differ) (h .distance) .least (arrival (o .0 .last) - A) (o .0, refl), o .1, l .holds .1, starts)
 
-  pub joined-bounded : (u v d : ℕ) → JoinedPairs rs A W n pivots u v d → (b : ℕ) × LatestUnder (rowsDay rs) A W pivots v b × (d ≤ b)
+  pub joined-bounded : (u v d : ℕ) → ReachedJoined rs A W n pivots u v d → (b : ℕ) × LatestUnder (rowsDay rs) A W pivots v b × (d ≤ b)
   joined-bounded u v d h =
       under (dist rs (p .reading) W n (p .stop) v) (onward-dist rs A W n g aw wh pivots sit p s v) (reached-yes (onward-dist rs A W n g aw wh pivots sit p s v) (flip (h .1 .joins .onward)))
     where

@@ -44,8 +44,8 @@ boundOf rs A W v = greatestOf (entryOf A W v) rs
 abbrev pub ReachedPairs : (rs : List Row) (A W n u v d : ℕ) → Type 0
 ReachedPairs rs A W n = Reached n (Earliest (rowsDay rs) A W)
 
-abbrev pub JoinedPairs : (rs : List Row) (A W n : ℕ) → List Pivot → (u v d : ℕ) → Type 0
-JoinedPairs rs A W n pivots u v d = ReachedPairs rs A W n u v d × Joined (rowsDay rs) A W pivots u v
+abbrev pub ReachedJoined : (rs : List Row) (A W n : ℕ) → List Pivot → (u v d : ℕ) → Type 0
+ReachedJoined rs A W n pivots u v d = ReachedPairs rs A W n u v d × Joined (rowsDay rs) A W pivots u v
 
 -- a greatest figure is what is computed
 figure-is : (P : ℕ → Type 0) (o : Option ℕ) (b : ℕ) → GreatestIfAny P o → Greatest P b → o ≡ some b
@@ -215,20 +215,20 @@ module _ (rs : List Row) (A W n : ℕ) (g : Good n rs) (aw : A ≤ W) (wh : W �
         joins = record { differ = ne; into = yes-reached (into-dist (t .0) s u l) (b .0); onward = flip (yes-reached (onward-dist (t .0) s v) (b .1)) };
       }
 
-  joined-pair-in : (u v d : ℕ) → JoinedPairs rs A W n pivots u v d → (u < n) × (v < n) × (joinedPairOf rs A W n pivots u v ≡ some d)
+  joined-pair-in : (u v d : ℕ) → ReachedJoined rs A W n pivots u v d → (u < n) × (v < n) × (joinedPairOf rs A W n pivots u v ≡ some d)
   unfolding joinedPairOf
   joined-pair-in u v d p =
       let i = pairs-told rs A W n g aw wh .told u v d (p .0) in (i .0, i .1, rw (joined-yes u v (i .0) (p .1)) (i .2))
 
-  joined-pair-out : (u v d : ℕ) → u < n → v < n → joinedPairOf rs A W n pivots u v ≡ some d → JoinedPairs rs A W n pivots u v d
+  joined-pair-out : (u v d : ℕ) → u < n → v < n → joinedPairOf rs A W n pivots u v ≡ some d → ReachedJoined rs A W n pivots u v d
   unfolding joinedPairOf
   joined-pair-out u v d ul vl e = go (anyOf (joinb rs A W n u v) pivots) refl e
     where
-      go : (b : Bool) → anyOf (joinb rs A W n u v) pivots ≡ b → cond b (pairOf rs A W n u v) none ≡ some d → JoinedPairs rs A W n pivots u v d
+      go : (b : Bool) → anyOf (joinb rs A W n u v) pivots ≡ b → cond b (pairOf rs A W n u v) none ≡ some d → ReachedJoined rs A W n pivots u v d
       go true x k = let p = pairs-told rs A W n g aw wh .holds u v d ul vl k in (p, yes-joined u v ul (p .differ) x)
       go false x k = not-none refl k
 
-  pub joined-pairs-told : TellsPairs n (joinedPairOf rs A W n pivots) (JoinedPairs rs A W n pivots)
+  pub joined-pairs-told : TellsPairs n (joinedPairOf rs A W n pivots) (ReachedJoined rs A W n pivots)
   joined-pairs-told = record { told = joined-pair-in; holds = joined-pair-out }
 
   pub pivot-bound-greatest : (v : ℕ) → GreatestIfAny (λ b. (p : Pivot) × List·Memᴰ p pivots × Under (rowsDay rs) A W v b p) (pivotBoundOf rs A W n pivots v)

@@ -34,7 +34,7 @@ use Rattle.search.specs.Farthest.{farthestIn}
 use Rattle.search.specs.Laws.Farthest.{farthest-is-far, joined-told}
 use Rattle.search.specs.Laws.Visiting.{IsFar}
 use Rattle.search.specs.Laws.Bounded.{pair-positive}
-use Rattle.search.specs.Laws.Pairs.{JoinedPairs, fromPivot, underOf, pivotBoundOf, onward-dist, pivot-bounds-told, reached-yes, yes-reached, flip}
+use Rattle.search.specs.Laws.Pairs.{ReachedJoined, fromPivot, underOf, pivotBoundOf, onward-dist, pivot-bounds-told, reached-yes, yes-reached, flip}
 use Rattle.search.specs.Laws.Entered.{ifBound, boundAt, later-bound, greater-none, greater-assoc}
 use Rattle.search.specs.Laws.Some.{some-yes, of-some}
 use Rattle.search.specs.Laws.Places.{things-before}
@@ -188,7 +188,7 @@ module _ (rs : List Row) (A W n : ℕ) (g : Good n rs) (aw : A ≤ W) (wh : W �
     -- so the farthest of what is kept is the farthest of the sources that pivots join to v
     pub farthest-kept : (into : List ℕ) → LaidOut n pivots (intoPivot n A (legsOf A W rs)) into → (v : ℕ) → v < n → (ds t : List ℕ)
         → ((u : ℕ) → u < n → Stands (rowsDay rs) A W u v (getD ds u 0))
-        → IsFar (JoinedPairs rs A W n pivots) v (farthestIn (keptJoined onward into (length pivots) n v ds ++ t) v n)
+        → IsFar (ReachedJoined rs A W n pivots) v (farthestIn (keptJoined onward into (length pivots) n v ds ++ t) v n)
     farthest-kept into in-time v vn ds t stand =
         farthest-is-far n v (keptJoined onward into (length pivots) n v ds ++ t)
         (joined-told (rowsDay rs) A W n v wh vn (keptJoined onward into (length pivots) n v ds ++ t) pivots (λ u l ne. kept-told into in-time u v l vn ne ds t (stand u l)))

@@ -26,7 +26,7 @@ use Rattle.search.specs.Targets.{beforeAll, nextIn}
 use Rattle.search.specs.Visits.{begun, visited, onNext, searched}
 use Rattle.search.specs.Laws.Greatest.{some-same}
 use Rattle.search.specs.Laws.Order.{order, order-length, order-right, TellsBounds}
-use Rattle.search.specs.Laws.Pairs.{ReachedPairs, JoinedPairs, pairOf, pairs-told, boundOf, bounds-told, joinedPairOf, joined-pairs-told, pivotBoundOf, pivot-bounds-told}
+use Rattle.search.specs.Laws.Pairs.{ReachedPairs, ReachedJoined, pairOf, pairs-told, boundOf, bounds-told, joinedPairOf, joined-pairs-told, pivotBoundOf, pivot-bounds-told}
 use Rattle.search.specs.Laws.Visiting.{IsFar, Right, run, run-right, visit-counts, visit-same}
 use Rattle.search.specs.Laws.Bounded.{pair-positive, pair-bounded, joined-bounded, farthestOf, farthestJoined, far-right}
 use Rattle.search.specs.Laws.Entered.{boundAt}
@@ -192,20 +192,20 @@ module _ (rs : List Row) (A W n : ℕ) (g : Good n rs) (aw : A ≤ W) (wh : W �
         go p s (itself e) x = omega (arith, s .not-after)
         go p s (reached ne l) x = let t = l .holds .0 in omega (arith, l .holds .1, t .ends, t .begins, spans (t .route))
 
-    joined-positive : (u v d : ℕ) → JoinedPairs rs A W n pivots u v d → 1 ≤ d
+    joined-positive : (u v d : ℕ) → ReachedJoined rs A W n pivots u v d → 1 ≤ d
     joined-positive u v d p = pair-positive rs A W n g aw wh u v d (p .0)
 
     -- the pivot-diameter
     pub pivot-diameter-searched : (bs : List ℕ) → TellsBounds n (boundAt bs) (LatestUnder (rowsDay rs) A W pivots)
-        → (far : ℕ → Far) → ((v : ℕ) → v < n → IsFar (JoinedPairs rs A W n pivots) v (far v))
-        → Right (JoinedPairs rs A W n pivots) (LatestUnder (rowsDay rs) A W pivots) (searched far bs n n beforeAll begun)
+        → (far : ℕ → Far) → ((v : ℕ) → v < n → IsFar (ReachedJoined rs A W n pivots) v (far v))
+        → Right (ReachedJoined rs A W n pivots) (LatestUnder (rowsDay rs) A W pivots) (searched far bs n n beforeAll begun)
     pivot-diameter-searched bs bounds far right =
         searched-right n bs bounds under-small far right joined-positive (joined-bounded rs A W n g aw wh pivots sit)
 
-    pub farthest-joined-right : (v : ℕ) → v < n → IsFar (JoinedPairs rs A W n pivots) v (farthestJoined rs A W n pivots v)
+    pub farthest-joined-right : (v : ℕ) → v < n → IsFar (ReachedJoined rs A W n pivots) v (farthestJoined rs A W n pivots v)
     farthest-joined-right = far-right n (joinedPairOf rs A W n pivots) (joined-pairs-told rs A W n g aw wh pivots sit) joined-positive
 
-    pub pivot-diameter-visited : Right (JoinedPairs rs A W n pivots) (LatestUnder (rowsDay rs) A W pivots)
+    pub pivot-diameter-visited : Right (ReachedJoined rs A W n pivots) (LatestUnder (rowsDay rs) A W pivots)
         (run (pivotBoundOf rs A W n pivots) (farthestJoined rs A W n pivots) (order (pivotBoundOf rs A W n pivots) n) begun)
     pivot-diameter-visited =
         run-right n (pivotBoundOf rs A W n pivots) (pivot-bounds-told rs A W n g aw wh pivots sit) (farthestJoined rs A W n pivots) farthest-joined-right joined-positive

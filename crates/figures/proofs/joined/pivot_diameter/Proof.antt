@@ -6,7 +6,7 @@ use mathlib.Core.List.{[], _∷_}
 use Rattle.rules.specs.Pivots.{pivotsOf, LatestUnder}
 use Rattle.rules.specs.Lent.{scratchPlaces, Wiped}
 use Rattle.passes.specs.Laws.Chains.{rowsDay}
-use Rattle.search.specs.Laws.Pairs.{JoinedPairs}
+use Rattle.search.specs.Laws.Pairs.{ReachedJoined}
 use Rattle.figures.specs.Promises.{ask, room, takes, PivotDiameterPromise}
 use Rattle.figures.proofs.Preparing.{told-rows, told-unprepared, rows-few, part-rows, part-ready}
 use Rattle.figures.proofs.Answering.{then-search}
@@ -60,7 +60,7 @@ returns-2 : tie.Need-returns-2
 unfolding PivotDiameterPromise
 returns-2 c =
     let args = c .before .before .before .before .before .before .before .before .before .before .before .before .before .before .before .args in
-    let t = told-rows (ask (args .list .now) (args .n) (args .asker) (args .a) (args .w)) _ _ _ (c .before .before .before .before .before .before .before .p2 .given .0 .0) (c .before .before .before .before .before .before .before .before .before .before .prepare .ensures) (c .before .before .before .before .before .before .before .p2 .given .1) in then-search (ask (args .list .now) (args .n) (args .asker) (args .a) (args .w)) (takes [] (args .pivots .now) (room (args .scratch .now) scratchPlaces ∷ [])) _ (part-rows (ask (args .list .now) (args .n) (args .asker) (args .a) (args .w)) _ (c .before .before .before .before .before .before .before .p2 .given .0 .0) _ (t .0) (t .1) (c .before .before .before .before .before .before .before .p2 .given .0 .0 * 5 - 0) (omega arith)) (t .0) (λ rs. JoinedPairs rs (args .a) (args .w) (args .n) (pivotsOf (args .pivots .now))) (λ rs. LatestUnder (rowsDay rs) (args .a) (args .w) (pivotsOf (args .pivots .now))) (Wiped (args .scratch .now) (c .before .before .own-pivot-diameter .last .1 .1 .1 .1 .1 .0)) ((c .before .before .own-pivot-diameter .last .1 .1 .1 .1 .1 .0) ≡ args .scratch .now) (c .before .before .own-pivot-diameter .result) (c .before .before .own-pivot-diameter .ensures)
+    let t = told-rows (ask (args .list .now) (args .n) (args .asker) (args .a) (args .w)) _ _ _ (c .before .before .before .before .before .before .before .p2 .given .0 .0) (c .before .before .before .before .before .before .before .before .before .before .prepare .ensures) (c .before .before .before .before .before .before .before .p2 .given .1) in then-search (ask (args .list .now) (args .n) (args .asker) (args .a) (args .w)) (takes [] (args .pivots .now) (room (args .scratch .now) scratchPlaces ∷ [])) _ (part-rows (ask (args .list .now) (args .n) (args .asker) (args .a) (args .w)) _ (c .before .before .before .before .before .before .before .p2 .given .0 .0) _ (t .0) (t .1) (c .before .before .before .before .before .before .before .p2 .given .0 .0 * 5 - 0) (omega arith)) (t .0) (λ rs. ReachedJoined rs (args .a) (args .w) (args .n) (pivotsOf (args .pivots .now))) (λ rs. LatestUnder (rowsDay rs) (args .a) (args .w) (pivotsOf (args .pivots .now))) (Wiped (args .scratch .now) (c .before .before .own-pivot-diameter .last .1 .1 .1 .1 .1 .0)) ((c .before .before .own-pivot-diameter .last .1 .1 .1 .1 .1 .0) ≡ args .scratch .now) (c .before .before .own-pivot-diameter .result) (c .before .before .own-pivot-diameter .ensures)
 
 pub pivot-diameter-spec : {M : Type 1} → statement M
 pivot-diameter-spec =

@@ -70,7 +70,7 @@ visit-joined-requires c κs =
 returns : tie.Need-returns
 returns c =
     let args = c .before .before .before .before .before .before .before .before .before .before .before .before .before .before .before .before .before .before .before .before .before .before .before .before .before .before .before .before .args in
-    rw (c .visit-joined .ensures) (joined-right (args .n) (args .a) (args .w) (args .rows .now) (c .before .before .before .before .before .before .before .before .before .before .before .before .before .before .before .before .before .before .before .before .before .before .before .before .before .before .before .before .pre .0) (args .pivots .now) (c .before .before .before .before .before .before .before .before .before .before .before .before .before .before .before .before .before .before .before .before .before .before .before .before .before .before .before .before .pre .1 .1) _ (part-read (args .n) (args .a) (args .w) (args .rows .now) (c .before .before .before .before .before .before .before .before .before .before .before .before .before .before .before .before .before .before .before .before .before .before .before .before .before .before .before .before .pre .0) _ _ (c .before .before .before .before .before .before .before .before .before .before .before .before .before .before .before .before .before .before .before .before .before .lay-legs .ensures .count) (c .before .before .before .before .before .before .before .before .before .before .before .before .before .before .before .before .before .before .before .before .before .lay-legs .ensures .copied) (c .before .before .before .before .before .before .before .before .before .before .before .before .before .before .before .before .before .before .before .before .before .lay-legs .result - 0) (omega (arith, c .before .before .before .before .before .before .before .before .before .before .before .before .before .before .before .before .before .before .before .before .before .lay-legs .ensures .ends))) (c .before .before .before .before .before .before .before .before .before .before .before .before .before .before .before .lay-pivots .last .1 .1 .1 .1 .0) (c .before .before .before .before .before .before .before .before .before .before .before .before .before .before .before .lay-pivots .last .1 .1 .1 .1 .1 .0) (c .before .before .before .before .before .before .before .before .before .before .before .before .before .before .before .lay-pivots .ensures .0) (c .before .before .before .before .before .before .before .before .before .before .before .before .before .before .before .lay-pivots .ensures .1) _ (length-pivots (args .pivots .now)) _ (c .before .before .before .before .before .before .before .before .before .before .pivot-bounds .last .1 .1 .1 .0) (c .before .before .before .before .before .before .before .before .before .before .pivot-bounds .ensures))
+    rw (c .visit-joined .ensures) (joined-right (args .n) (args .a) (args .w) (args .rows .now) (c .before .before .before .before .before .before .before .before .before .before .before .before .before .before .before .before .before .before .before .before .before .before .before .before .before .before .before .before .pre .0) (args .pivots .now) (c .before .before .before .before .before .before .before .before .before .before .before .before .before .before .before .before .before .before .before .before .before .before .before .before .before .before .before .before .pre .1 .1) _ (part-read (args .n) (args .a) (args .w) (args .rows .now) (c .before .before .before .before .before .before .before .before .before .before .before .before .before .before .before .before .before .before .before .before .before .before .before .before .before .before .before .before .pre .0) _ _ (c .before .before .before .before .before .before .before .before .before .before .before .before .before .before .before .before .before .before .before .before .before .lay-legs .ensures .count) (c .before .before .before .before .before .before .before .before .before .before .before .before .before .before .before .before .before .before .before .before .before .lay-legs .ensures .copied) (c .before .before .before .before .before .before .before .before .before .before .before .before .before .before .before .before .before .before .before .before .before .lay-legs .result - 0) (omega (arith, c .before .before .before .before .before .before .before .before .before .before .before .before .before .before .before .before .before .before .before .before .before .lay-legs .ensures .ends))) (c .before .before .before .before .before .before .before .before .before .before .before .before .before .before .before .lay-pivots .last .1 .1 .1 .1 .0) (c .before .before .before .before .before .before .before .before .before .before .before .before .before .before .before .lay-pivots .last .1 .1 .1 .1 .1 .0) (c .before .before .before .before .before .before .before .before .before .before .before .before .before .before .before .lay-pivots .ensures .0 .laid) (c .before .before .before .before .before .before .before .before .before .before .before .before .before .before .before .lay-pivots .ensures .1 .laid) _ (length-pivots (args .pivots .now)) _ (c .before .before .before .before .before .before .before .before .before .before .pivot-bounds .last .1 .1 .1 .0) (c .before .before .before .before .before .before .before .before .before .before .pivot-bounds .ensures))
 
 pub search-joined-spec : {M : Type 1} → statement M
 search-joined-spec =

@@ -1,0 +1,24 @@
+-- The day that each step leaves.
+use Prim.Native.Nat.{ℕ, _+_, _%_, _^_}
+use mathlib.Core.Bool.{true, false}
+use Rattle.figures_program.specs.declared.day.Day.{Day}
+
+-- at first nothing is given, on line 1
+abbrev pub begun : Day
+begun = record { given = false; n = 0; rows = 0; pivots = 0; line = 1; len = 0 }
+
+abbrev pub withStops : Day → ℕ → Day
+withStops day n = record { given = true; n = n; rows = day .rows; pivots = day .pivots; line = day .line; len = day .len }
+
+abbrev pub withRows : Day → ℕ → Day
+withRows day rows = record { given = day .given; n = day .n; rows = rows; pivots = day .pivots; line = day .line; len = day .len }
+
+abbrev pub withPivots : Day → ℕ → Day
+withPivots day pivots = record { given = day .given; n = day .n; rows = day .rows; pivots = pivots; line = day .line; len = day .len }
+
+abbrev pub withLen : Day → ℕ → Day
+withLen day len = record { given = day .given; n = day .n; rows = day .rows; pivots = day .pivots; line = day .line; len = len }
+
+-- the number of the line is a 64-bit one
+abbrev pub onNextLine : Day → Day
+onNextLine day = record { given = day .given; n = day .n; rows = day .rows; pivots = day .pivots; line = (day .line + 1) % 2 ^ 64; len = 0 }
