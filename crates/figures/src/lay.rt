@@ -1,6 +1,6 @@
 // What an ask lays out: the legs with their links, and the numbers of pivots, one pivot after another, onward from each and into it.
 ghost use mathlib.Core.Path.{_≡_};
-ghost use Prim.Native.Nat.{_+_, _*_, _/_, _≤_, _<_};
+ghost use Prim.Native.Nat.{_+_, _-_, _*_, _/_, _≤_, _<_};
 ghost use lib.ListN.{length};
 ghost use Rattle.rules.specs.Clock.{horizon};
 ghost use Rattle.rules.specs.Day.{mostStops, mostRows, rowsOf};
@@ -14,6 +14,8 @@ ghost use Rattle.search.specs.Pivots.{allPlaces, PivotsLaid};
 ghost use Rattle.figures.specs.Parts.{Ready, LegsLaid};
 ghost use Rattle.figures.specs.Pivots.{pivotWidth, AllSit, putAt};
 use crate::pivots::PIVOT_WIDTH;
+use clock::Gap;
+use clock::Length;
 use clock::Reading;
 use passes::LEG_WIDTH;
 use passes::forward_pass;
@@ -42,24 +44,35 @@ pub fn lay_legs(
     end
 }
 
+// The length from A to a reading that is not before it.
+fn since(reading: Reading, a: Reading) -> Length
+    requires { ⌜ a .0 ≤ reading .0 ⌝ }
+    ensures { λ r. ⌜ r .0 ≡ reading .0 - a .0 ⌝ }
+{
+    match reading.minus(a) {
+        Gap::Of(length) => length,
+        Gap::Before => Length(0),
+    }
+}
+
 // One pivot's numbers, from place `at` on. Its reading comes as a length since A.
 fn lay_pivot(
     legs: &[u32],
     n: usize,
     stop: u32,
-    reading: u32,
+    reading: Length,
     at: usize,
     onward: &mut [u32],
     into: &mut [u32],
 )
-    requires { ⌜ (stop < n) × ((reading ≤ horizon) × Laid n (now legs)) ⌝ }
+    requires { ⌜ (stop < n) × ((reading .0 ≤ horizon) × Laid n (now legs)) ⌝ }
     requires { ⌜ (at + n ≤ length (now onward)) × (at + n ≤ length (now into)) ⌝ }
-    ensures { λ _. ⌜ now (onward .exit) ≡ putAt at n (passed (legsIn (now (legs .entry))) (init reading stop n)) (now (onward .entry)) ⌝ }
-    ensures { λ _. ⌜ now (into .exit) ≡ putAt at n (reachedBack (legsIn (now (legs .entry))) (reachInit reading stop n)) (now (into .entry)) ⌝ }
+    ensures { λ _. ⌜ now (onward .exit) ≡ putAt at n (passed (legsIn (now (legs .entry))) (init (reading .0) stop n)) (now (onward .entry)) ⌝ }
+    ensures { λ _. ⌜ now (into .exit) ≡ putAt at n (reachedBack (legsIn (now (legs .entry))) (reachInit (reading .0) stop n)) (now (into .entry)) ⌝ }
 {
     let p = stop as usize;
-    forward_pass(legs, n, p, reading, &mut onward[at..]);
-    reach_back(legs, n, p, reading, &mut into[at..]);
+    forward_pass(legs, n, p, reading.0, &mut onward[at..]);
+    reach_back(legs, n, p, reading.0, &mut into[at..]);
 }
 
 // The numbers of all pivots.
@@ -82,15 +95,8 @@ pub fn lay_pivots(
     while i < m {
         let from = i * PIVOT_WIDTH;
         let at = i * PIVOT_PLACES;
-        lay_pivot(
-            legs,
-            n,
-            pivots[from],
-            pivots[from + 1] - a,
-            at,
-            onward,
-            into,
-        );
+        let reading = since(Reading(pivots[from + 1]), Reading(a));
+        lay_pivot(legs, n, pivots[from], reading, at, onward, into);
         i += 1;
     }
 }

@@ -45,7 +45,7 @@ same-length-2 : tie.Need-same-length-2
 same-length-2 c = search needs
 
 returns : tie.Need-returns
-returns c = let args = c .before .before .before .before .before .before .before .before .before .before .before .args in let ls = legsIn (args .legs .now) in let reading = args .reading in let stop = args .stop in (part-put (args .at) (args .n) (passed ls (init reading stop (args .n))) (args .onward .now) (c .before .before .before .before .before .before .forward-pass .last .1 .1 .1 .1 .0) (omega arith) (c .before .before .before .before .before .before .forward-pass .ensures), part-put (args .at) (args .n) (reachedBack ls (reachInit reading stop (args .n))) (args .into .now) (c .before .before .reach-back .last .1 .1 .1 .1 .0) (omega arith) (c .before .before .reach-back .ensures))
+returns c = let args = c .before .before .before .before .before .before .before .before .before .before .before .args in let ls = legsIn (args .legs .now) in let reading = args .reading .0 in let stop = args .stop in (part-put (args .at) (args .n) (passed ls (init reading stop (args .n))) (args .onward .now) (c .before .before .before .before .before .before .forward-pass .last .1 .1 .1 .1 .0) (omega arith) (c .before .before .before .before .before .before .forward-pass .ensures), part-put (args .at) (args .n) (reachedBack ls (reachInit reading stop (args .n))) (args .into .now) (c .before .before .reach-back .last .1 .1 .1 .1 .0) (omega arith) (c .before .before .reach-back .ensures))
 
 pub lay-pivot-spec : {M : Type 1} → statement M
 lay-pivot-spec =

@@ -1,19 +1,20 @@
 -- The loop: the numbers of the first i pivots stand at their places.
-use Prim.Native.Nat.{_+_, _-_, _*_, _≤_}
+use Prim.Native.Nat.{ℕ, _+_, _-_, _*_, _≤_}
 use native.Mathlib.Omega.{arith}
-use mathlib.Core.Path.{_≡_, refl, _∙_}
+use mathlib.Core.Path.{_≡_, refl, ap, _∙_}
 use lib.ListN.{length}
 use borrow.Author.Needs.{needs}
 use Rattle.rules.specs.Clock.{horizon}
 use Rattle.figures.proofs.Pivoting.{pivotAt, length-pivots}
 use Rattle.figures.proofs.Placing.{Placed, place-more, place-end, apart-more, apart-none, pivot-sits}
-use Rattle.passes.specs.Forward.{init}
+use Rattle.passes.specs.Forward.{init, passed}
 use Rattle.passes.specs.Laws.Passed.{passed-length, init-long}
 use Rattle.passes.specs.Laws.Reach.{reached-back-length, reach-init-long}
 use Rattle.passes.specs.Legs.{legsIn}
 use Rattle.passes.specs.Pivots.{onwardPivot, intoPivot}
-use Rattle.passes.specs.Reach.{reachInit}
+use Rattle.passes.specs.Reach.{reachInit, reachedBack}
 use Rattle.rules.specs.Pivots.{pivotsOf}
+use Rattle.figures.specs.Pivots.{putAt}
 use Rattle.search.specs.Pivots.{pivotPlaces, Apart}
 use Rattle.figures.proofs.lay.lay_pivots.Statement.{statement}
 use Rattle.figures.proofs.lay.lay_pivots.Tie as tie
@@ -33,14 +34,19 @@ mul-from c = search needs
 mul-at : tie.Need-mul-at Inv-loop μ-loop
 mul-at c = search needs
 
+add-lay-pivot : tie.Need-add-lay-pivot Inv-loop μ-loop
+add-lay-pivot c = search needs
+
 mul-lay-pivot : tie.Need-mul-lay-pivot Inv-loop μ-loop
 mul-lay-pivot c = search needs
 
 shared-slice-read-lay-pivot : tie.Need-shared-slice-read-lay-pivot Inv-loop μ-loop
 shared-slice-read-lay-pivot c = search needs
 
-add-lay-pivot : tie.Need-add-lay-pivot Inv-loop μ-loop
-add-lay-pivot c = search needs
+since-requires : tie.Need-since-requires Inv-loop μ-loop
+since-requires c κs =
+    let args = c .before .before .before .before .before .before .before .args in
+    pivot-sits (args .n) (args .a) horizon (args .pivots .now) (c .before .before .loop .i) (c .before .before .before .before .before .before .before .pre .1 .0 .1) (c .before .loop-test .taken) .not-before
 
 mul-lay-pivot-2 : tie.Need-mul-lay-pivot-2 Inv-loop μ-loop
 mul-lay-pivot-2 c = search needs
@@ -48,13 +54,15 @@ mul-lay-pivot-2 c = search needs
 shared-slice-read-lay-pivot-2 : tie.Need-shared-slice-read-lay-pivot-2 Inv-loop μ-loop
 shared-slice-read-lay-pivot-2 c = search needs
 
-sub-lay-pivot : tie.Need-sub-lay-pivot Inv-loop μ-loop
-sub-lay-pivot c = let args = c .before .before .before .before .before .before .before .before .args in pivot-sits (args .n) (args .a) horizon (args .pivots .now) (c .before .before .before .loop .i) (c .before .before .before .before .before .before .before .before .pre .1 .0 .1) (c .before .before .loop-test .taken) .not-before
-
 lay-pivot-requires : tie.Need-lay-pivot-requires Inv-loop μ-loop
 lay-pivot-requires c κs =
-    let loop = c .before .before .before .before .before .loop in
-    let args = c .before .before .before .before .before .before .before .before .before .before .args in let sits = pivot-sits (args .n) (args .a) horizon (args .pivots .now) (loop .i) (c .before .before .before .before .before .before .before .before .before .before .pre .1 .0 .1) (c .before .before .before .before .loop-test .taken) in let inv = loop .inv in let few = c .before .before .before .before .before .before .before .before .before .before .pre .1 .0 .0 in let small = c .before .before .before .before .before .before .before .before .before .before .pre .0 .0 in let rooms = c .before .before .before .before .before .before .before .before .before .before .pre .1 .1 in ((sits .below, (omega (arith, sits .not-after), c .before .before .before .before .before .before .before .before .before .before .pre .0 .1)), (omega (arith, inv .1 .0 .same-length, few, small, rooms .0), omega (arith, inv .1 .1 .0 .same-length, few, small, rooms .1)))
+    let loop = c .before .before .before .before .before .before .loop in
+    let args = c .before .before .before .before .before .before .before .before .before .before .before .args in
+    let pre = c .before .before .before .before .before .before .before .before .before .before .before .pre in
+    let sits = pivot-sits (args .n) (args .a) horizon (args .pivots .now) (loop .i) (pre .1 .0 .1) (c .before .before .before .before .before .loop-test .taken) in (
+      (sits .below, (omega (arith, sits .not-after, c .before .before .before .since .ensures), pre .0 .1)),
+      (omega (arith, loop .inv .1 .0 .same-length, pre .1 .0 .0, pre .0 .0, pre .1 .1 .0), omega (arith, loop .inv .1 .1 .0 .same-length, pre .1 .0 .0, pre .0 .0, pre .1 .1 .1)),
+    )
 
 add-i : tie.Need-add-i Inv-loop μ-loop
 add-i c = search needs
@@ -63,7 +71,24 @@ loop-less : tie.Need-loop-less Inv-loop μ-loop
 loop-less c = search needs
 
 loop-again : tie.Need-loop-again Inv-loop μ-loop
-loop-again c = let args = c .before .before .before .before .before .before .before .before .before .before .before .before .before .before .before .args in let loop = c .before .before .before .before .before .before .before .before .before .before .loop in let inv = loop .inv in let ls = legsIn (args .legs .now) in let few = c .before .before .before .before .before .before .before .before .before .before .before .before .before .before .before .pre .1 .0 .0 in let small = c .before .before .before .before .before .before .before .before .before .before .before .before .before .before .before .pre .0 .0 in let rooms = c .before .before .before .before .before .before .before .before .before .before .before .before .before .before .before .pre .1 .1 in let at = loop .i * pivotPlaces in let p = pivotAt (args .pivots .now) (loop .i) in let onward = onwardPivot (args .n) (args .a) ls in let into = intoPivot (args .n) (args .a) ls in let long = passed-length ls (init (p .reading - args .a) (p .stop) (args .n)) ∙ init-long (p .reading - args .a) (p .stop) (args .n) in let long2 = reached-back-length ls (reachInit (p .reading - args .a) (p .stop) (args .n)) ∙ reach-init-long (p .reading - args .a) (p .stop) (args .n) in let room : at + args .n ≤ length (loop .onward) = omega (arith, inv .1 .0 .same-length, few, small, rooms .0) in let room2 : at + args .n ≤ length (loop .into) = omega (arith, inv .1 .1 .0 .same-length, few, small, rooms .1) in (omega arith, (apart-more (args .n) (loop .i) (onward p) _ (loop .onward) _ room long (c .before .before .before .before .lay-pivot .ensures .0) (inv .1 .0), (apart-more (args .n) (loop .i) (into p) _ (loop .into) _ room2 long2 (c .before .before .before .before .lay-pivot .ensures .1) (inv .1 .1 .0), (place-more (args .n) (args .pivots .now) onward (loop .i) (onward p) (loop .onward) _ small room long refl (c .before .before .before .before .lay-pivot .ensures .0) (inv .1 .1 .1 .0), place-more (args .n) (args .pivots .now) into (loop .i) (into p) (loop .into) _ small room2 long2 refl (c .before .before .before .before .lay-pivot .ensures .1) (inv .1 .1 .1 .1)))))
+loop-again c =
+    let args = c .before .before .before .before .before .before .before .before .before .before .before .before .before .before .before .before .args in
+    let pre = c .before .before .before .before .before .before .before .before .before .before .before .before .before .before .before .before .pre in
+    let loop = c .before .before .before .before .before .before .before .before .before .before .before .loop in
+    let inv = loop .inv in
+    let ls = legsIn (args .legs .now) in
+    let at = loop .i * pivotPlaces in
+    let p = pivotAt (args .pivots .now) (loop .i) in
+    let by = p .reading - args .a in
+    let onward = onwardPivot (args .n) (args .a) ls in
+    let into = intoPivot (args .n) (args .a) ls in
+    let long = passed-length ls (init by (p .stop) (args .n)) ∙ init-long by (p .stop) (args .n) in
+    let long2 = reached-back-length ls (reachInit by (p .stop) (args .n)) ∙ reach-init-long by (p .stop) (args .n) in
+    let room : at + args .n ≤ length (loop .onward) = omega (arith, inv .1 .0 .same-length, pre .1 .0 .0, pre .0 .0, pre .1 .1 .0) in
+    let room2 : at + args .n ≤ length (loop .into) = omega (arith, inv .1 .1 .0 .same-length, pre .1 .0 .0, pre .0 .0, pre .1 .1 .1) in
+    let put = c .before .before .before .before .lay-pivot .ensures .0 ∙ ap (λ (x : ℕ). putAt at (args .n) (passed ls (init x (p .stop) (args .n))) (loop .onward)) (c .before .before .before .before .before .before .before .before .since .ensures) in
+    let put2 = c .before .before .before .before .lay-pivot .ensures .1 ∙ ap (λ (x : ℕ). putAt at (args .n) (reachedBack ls (reachInit x (p .stop) (args .n))) (loop .into)) (c .before .before .before .before .before .before .before .before .since .ensures) in
+    (omega arith, (apart-more (args .n) (loop .i) (onward p) _ (loop .onward) _ room long put (inv .1 .0), (apart-more (args .n) (loop .i) (into p) _ (loop .into) _ room2 long2 put2 (inv .1 .1 .0), (place-more (args .n) (args .pivots .now) onward (loop .i) (onward p) (loop .onward) _ (pre .0 .0) room long refl put (inv .1 .1 .1 .0), place-more (args .n) (args .pivots .now) into (loop .i) (into p) (loop .into) _ (pre .0 .0) room2 long2 refl put2 (inv .1 .1 .1 .1)))))
 
 same-length : tie.Need-same-length Inv-loop μ-loop
 same-length c = c .before .loop .inv .1 .0 .same-length
@@ -90,12 +115,12 @@ lay-pivots-spec =
     loop-holds
     mul-from
     mul-at
+    add-lay-pivot
     mul-lay-pivot
     shared-slice-read-lay-pivot
-    add-lay-pivot
+    since-requires
     mul-lay-pivot-2
     shared-slice-read-lay-pivot-2
-    sub-lay-pivot
     lay-pivot-requires
     add-i
     loop-less
