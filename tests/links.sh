@@ -2,6 +2,8 @@
 # Programs in C, Rust and Python link the figures as tools/library makes them ready, and print what is stored beside them.
 set -u
 cd "$(dirname "$0")/.." || exit 1
+# where Rust's installer puts its commands, since not every shell looks there
+export PATH=$PATH:${CARGO_HOME:-~/.cargo}/bin
 
 fail() {
     echo "links: $*" >&2

@@ -3,6 +3,8 @@
 # --seed S. Without any it goes on for 20 seconds.
 set -u
 cd "$(dirname "$0")/.." || exit 1
+# where Rust's installer puts its commands, since not every shell looks there
+export PATH=$PATH:${CARGO_HOME:-~/.cargo}/bin
 if ! command -v rustc >/dev/null 2>&1; then
     echo "second: the command rustc is missing here: install Rust 1.70 or newer" >&2
     exit 1
