@@ -96,6 +96,8 @@ printf '%s' ${row}0 | prints 'a long last line' 'frame 1'
 { printf '%s\n' $stops; yes 0 | tr -d '\n'; } 2>/dev/null | prints 'a line without an end' 'frame 2'
 yes 2>/dev/null | prints 'an input without an end' 'frame 1'
 
+prints 'an input that cannot be read' '' </
+
 # The document's example reads alike however it is split, and in capitals.
 example=crates/figures_program/stdin
 plain=$(program <$example)
