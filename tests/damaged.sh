@@ -98,6 +98,9 @@ yes 2>/dev/null | prints 'an input without an end' 'frame 1'
 
 prints 'an input that cannot be read' '' </
 
+# day D with two pivots, each with places of its own
+{ grep -v '^0[34]' crates/figures_program/stdin; printf '%s\n' 030003000000fa 03000200000096 0400000000640000012c; } | prints 'two pivots' '105 0 4 2'
+
 # The document's example reads alike however it is split, and in capitals.
 example=crates/figures_program/stdin
 plain=$(program <$example)

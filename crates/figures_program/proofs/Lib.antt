@@ -1,3 +1,4 @@
 pub mod Going
 pub mod Counting
 pub mod Putting
+pub mod Taking

@@ -1,7 +1,8 @@
 // Frames, taken one after another: stops, rows and pivots are kept, an ask is answered.
 ghost use mathlib.Core.Path.{_≡_};
 ghost use Rattle.figures_program.specs.Room.{InRoom, GoesOn};
-ghost use Rattle.figures_program.specs.declared.day.Next.the-variants.{Stop};
+ghost use Rattle.figures_program.specs.declared.day.Next.the-variants.{Go, Stop};
+ghost use Rattle.figures_program.specs.Taken.{stopsNext, rowNext, rowPut, pivotNext, pivotPut, Asked, Later, Taken};
 use crate::day::Day;
 use crate::day::List;
 use crate::day::MOST_PIVOTS;
@@ -28,6 +29,7 @@ pub fn stop(day: Day) -> Next
 fn take_stops(day: Day, n: u32) -> Next
     requires { ⌜ InRoom day ⌝ }
     ensures { λ r. ⌜ GoesOn r ⌝ }
+    ensures { λ r. ⌜ r ≡ stopsNext day n ⌝ }
 {
     if day.given {
         return stop(day);
@@ -46,6 +48,7 @@ fn take_row(
 ) -> Next
     requires { ⌜ InRoom day ⌝ }
     ensures { λ r. ⌜ GoesOn r ⌝ }
+    ensures { λ r. ⌜ (r ≡ rowNext day) × (now (list .exit) ≡ rowPut day from to start travel owner (now (list .entry))) ⌝ }
 {
     let rows = day.rows;
     if rows >= MOST_ROWS {
@@ -60,17 +63,18 @@ fn take_row(
     Next::Go(day.with_rows(rows + 1))
 }
 
-fn take_pivot(pivots: &mut Pivots, day: Day, at_stop: u32, reading: u32) -> Next
+fn take_pivot(pivots: &mut Pivots, day: Day, p: u32, s: u32) -> Next
     requires { ⌜ InRoom day ⌝ }
     ensures { λ r. ⌜ GoesOn r ⌝ }
+    ensures { λ r. ⌜ (r ≡ pivotNext day) × (now (pivots .exit) ≡ pivotPut day p s (now (pivots .entry))) ⌝ }
 {
     let count = day.pivots;
     if count >= MOST_PIVOTS {
         return stop(day);
     }
     let at = count * PIVOT_WIDTH;
-    pivots[at] = at_stop;
-    pivots[at + 1] = reading;
+    pivots[at] = p;
+    pivots[at + 1] = s;
     Next::Go(day.with_pivots(count + 1))
 }
 
@@ -85,6 +89,7 @@ fn take_ask(
 ) -> Next
     requires { ⌜ InRoom day ⌝ }
     ensures { λ r. ⌜ GoesOn r ⌝ }
+    ensures { λ r. ⌜ (r ≡ Go day) × Asked day asker a w (now (list .entry)) (now (pivots .entry)) (now (scratch .entry)) (now (scratch .exit)) ⌝ }
 {
     let end = day.rows * ROW_WIDTH;
     let last = day.pivots * PIVOT_WIDTH;
@@ -106,6 +111,7 @@ fn take_later(
 ) -> Next
     requires { ⌜ InRoom day ⌝ }
     ensures { λ r. ⌜ GoesOn r ⌝ }
+    ensures { λ r. ⌜ Later frame day (now (list .entry)) (now (pivots .entry)) (now (scratch .entry)) r (now (list .exit)) (now (pivots .exit)) (now (scratch .exit)) ⌝ }
 {
     match frame {
         Frame::Row {
@@ -131,6 +137,7 @@ pub fn take_frame(
 ) -> Next
     requires { ⌜ InRoom day ⌝ }
     ensures { λ r. ⌜ GoesOn r ⌝ }
+    ensures { λ r. ⌜ Taken frame day (now (list .entry)) (now (pivots .entry)) (now (scratch .entry)) r (now (list .exit)) (now (pivots .exit)) (now (scratch .exit)) ⌝ }
 {
     if let Frame::Stops(n) = frame {
         return take_stops(day, n);

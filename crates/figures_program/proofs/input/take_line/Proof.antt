@@ -23,7 +23,7 @@ enum-known-next : tie.Need-enum-known-next
 enum-known-next c = search needs
 
 on-next-line-requires : tie.Need-on-next-line-requires
-on-next-line-requires c κs = went-on _ _ (c .before .before .before .take-frame .ensures) (c .before .next .given .1)
+on-next-line-requires c κs = went-on _ _ (c .before .before .before .take-frame .ensures .0) (c .before .next .given .1)
 
 enum-told : tie.Need-enum-told
 enum-told c = search needs

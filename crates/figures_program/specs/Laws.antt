@@ -1,0 +1,2 @@
+-- Laws of what frames do.
+pub mod Unique
