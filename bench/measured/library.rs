@@ -1,95 +1,9 @@
 // The library's calls, by its C interface.
+#[path = "../../bindings/rust/src/raw.rs"]
+mod raw;
+
 use crate::calls::{Ask, Call, Lent, Reply};
-
-type Numbers = *const u32;
-type Room = *mut u32;
-
-extern "C" {
-    fn figures_distances_from(
-        list: Numbers,
-        list_len: usize,
-        n: u32,
-        asker: u32,
-        a: u32,
-        w: u32,
-        source: u32,
-        out: Room,
-        out_len: usize,
-        reply: Room,
-    );
-    fn figures_distances_to(
-        list: Numbers,
-        list_len: usize,
-        n: u32,
-        asker: u32,
-        a: u32,
-        w: u32,
-        target: u32,
-        out: Room,
-        out_len: usize,
-        scratch: Room,
-        scratch_len: usize,
-        reply: Room,
-    );
-    fn figures_table(
-        list: Numbers,
-        list_len: usize,
-        n: u32,
-        asker: u32,
-        a: u32,
-        w: u32,
-        out: Room,
-        out_len: usize,
-        reply: Room,
-    );
-    fn figures_forward_eccentricity(
-        list: Numbers,
-        list_len: usize,
-        n: u32,
-        asker: u32,
-        a: u32,
-        w: u32,
-        stop: u32,
-        reply: Room,
-    );
-    fn figures_backward_eccentricity(
-        list: Numbers,
-        list_len: usize,
-        n: u32,
-        asker: u32,
-        a: u32,
-        w: u32,
-        stop: u32,
-        scratch: Room,
-        scratch_len: usize,
-        reply: Room,
-    );
-    fn figures_diameter(
-        list: Numbers,
-        list_len: usize,
-        n: u32,
-        asker: u32,
-        a: u32,
-        w: u32,
-        scratch: Room,
-        scratch_len: usize,
-        reply: Room,
-    );
-    fn figures_pivot_diameter(
-        list: Numbers,
-        list_len: usize,
-        n: u32,
-        asker: u32,
-        a: u32,
-        w: u32,
-        pivots: Numbers,
-        pivots_len: usize,
-        scratch: Room,
-        scratch_len: usize,
-        reply: Room,
-    );
-    fn figures_office_check(list: Numbers, list_len: usize, n: u32, reply: Room);
-}
+use raw::*;
 
 #[inline(never)]
 pub fn reply(ask: Ask, call: Call, lent: &mut Lent) -> Reply {
@@ -98,7 +12,7 @@ pub fn reply(ask: Ask, call: Call, lent: &mut Lent) -> Reply {
     let (out, places) = (lent.out.as_mut_ptr(), lent.out.len());
     let (scratch, room) = (lent.scratch.as_mut_ptr(), lent.scratch.len());
     let mut reply = [0; 5];
-    let r = reply.as_mut_ptr();
+    let r = &mut reply;
     // Every pointer comes with its list's length, and the lists do not overlap.
     unsafe {
         match call {

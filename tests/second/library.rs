@@ -1,93 +1,10 @@
-// The library's eight calls, as the C header declares them, and the outcome of an ask by them.
+// The outcome of an ask by the library's calls.
+
+#[path = "../../bindings/rust/src/raw.rs"]
+mod raw;
 
 use crate::ask::{junk_list, Ask, Call, Outcome, Reply};
-
-extern "C" {
-    fn figures_distances_from(
-        list: *const u32,
-        list_len: usize,
-        n: u32,
-        asker: u32,
-        a: u32,
-        w: u32,
-        source: u32,
-        out: *mut u32,
-        out_len: usize,
-        reply: *mut u32,
-    );
-    fn figures_distances_to(
-        list: *const u32,
-        list_len: usize,
-        n: u32,
-        asker: u32,
-        a: u32,
-        w: u32,
-        target: u32,
-        out: *mut u32,
-        out_len: usize,
-        scratch: *mut u32,
-        scratch_len: usize,
-        reply: *mut u32,
-    );
-    fn figures_table(
-        list: *const u32,
-        list_len: usize,
-        n: u32,
-        asker: u32,
-        a: u32,
-        w: u32,
-        out: *mut u32,
-        out_len: usize,
-        reply: *mut u32,
-    );
-    fn figures_forward_eccentricity(
-        list: *const u32,
-        list_len: usize,
-        n: u32,
-        asker: u32,
-        a: u32,
-        w: u32,
-        stop: u32,
-        reply: *mut u32,
-    );
-    fn figures_backward_eccentricity(
-        list: *const u32,
-        list_len: usize,
-        n: u32,
-        asker: u32,
-        a: u32,
-        w: u32,
-        stop: u32,
-        scratch: *mut u32,
-        scratch_len: usize,
-        reply: *mut u32,
-    );
-    fn figures_diameter(
-        list: *const u32,
-        list_len: usize,
-        n: u32,
-        asker: u32,
-        a: u32,
-        w: u32,
-        scratch: *mut u32,
-        scratch_len: usize,
-        reply: *mut u32,
-    );
-    fn figures_pivot_diameter(
-        list: *const u32,
-        list_len: usize,
-        n: u32,
-        asker: u32,
-        a: u32,
-        w: u32,
-        pivots: *const u32,
-        pivots_len: usize,
-        scratch: *mut u32,
-        scratch_len: usize,
-        reply: *mut u32,
-    );
-    fn figures_office_check(list: *const u32, list_len: usize, n: u32, reply: *mut u32);
-}
+use raw::*;
 
 /// Places on either side of a lent list, which no call may write to.
 const AROUND: usize = 8;
@@ -110,8 +27,8 @@ impl Lent {
         }
     }
 
-    fn pointer(&mut self) -> *mut u32 {
-        self.numbers[AROUND..].as_mut_ptr()
+    fn parts(&mut self) -> (*mut u32, usize) {
+        (self.numbers[AROUND..].as_mut_ptr(), self.len)
     }
 
     fn inside(&self) -> &[u32] {
@@ -173,147 +90,38 @@ impl Lists {
 
 pub fn outcome(ask: &Ask) -> Outcome {
     let mut lists = Lists::of(ask);
-    let call = match ask.call {
-        Call::DistancesFrom => distances_from,
-        Call::DistancesTo => distances_to,
-        Call::Table => table,
-        Call::ForwardEccentricity => forward_eccentricity,
-        Call::BackwardEccentricity => backward_eccentricity,
-        Call::Diameter => diameter,
-        Call::PivotDiameter => pivot_diameter,
-        Call::OfficeCheck => office_check,
-    };
     call(ask, &mut lists);
     lists.outcome(ask)
 }
 
-// In each call below, every pointer is that of a list which lives in `lists`, with its own length.
-
-fn distances_from(ask: &Ask, lists: &mut Lists) {
+fn call(ask: &Ask, lists: &mut Lists) {
+    let (n, asker, a, w, stop) = (ask.n, ask.asker, ask.a, ask.w, ask.stop);
+    let (list, len) = lists.list.parts();
+    let (pivots, pivots_len) = lists.pivots.parts();
+    let (out, out_len) = lists.out.parts();
+    let (scratch, room) = lists.scratch.parts();
+    let reply = lists.reply.parts().0.cast();
+    // Every pointer is that of a list which lives in `lists`, with its own length.
     unsafe {
-        figures_distances_from(
-            lists.list.pointer(),
-            lists.list.len,
-            ask.n,
-            ask.asker,
-            ask.a,
-            ask.w,
-            ask.stop,
-            lists.out.pointer(),
-            lists.out.len,
-            lists.reply.pointer(),
-        )
-    }
-}
-
-fn distances_to(ask: &Ask, lists: &mut Lists) {
-    unsafe {
-        figures_distances_to(
-            lists.list.pointer(),
-            lists.list.len,
-            ask.n,
-            ask.asker,
-            ask.a,
-            ask.w,
-            ask.stop,
-            lists.out.pointer(),
-            lists.out.len,
-            lists.scratch.pointer(),
-            lists.scratch.len,
-            lists.reply.pointer(),
-        )
-    }
-}
-
-fn table(ask: &Ask, lists: &mut Lists) {
-    unsafe {
-        figures_table(
-            lists.list.pointer(),
-            lists.list.len,
-            ask.n,
-            ask.asker,
-            ask.a,
-            ask.w,
-            lists.out.pointer(),
-            lists.out.len,
-            lists.reply.pointer(),
-        )
-    }
-}
-
-fn forward_eccentricity(ask: &Ask, lists: &mut Lists) {
-    unsafe {
-        figures_forward_eccentricity(
-            lists.list.pointer(),
-            lists.list.len,
-            ask.n,
-            ask.asker,
-            ask.a,
-            ask.w,
-            ask.stop,
-            lists.reply.pointer(),
-        )
-    }
-}
-
-fn backward_eccentricity(ask: &Ask, lists: &mut Lists) {
-    unsafe {
-        figures_backward_eccentricity(
-            lists.list.pointer(),
-            lists.list.len,
-            ask.n,
-            ask.asker,
-            ask.a,
-            ask.w,
-            ask.stop,
-            lists.scratch.pointer(),
-            lists.scratch.len,
-            lists.reply.pointer(),
-        )
-    }
-}
-
-fn diameter(ask: &Ask, lists: &mut Lists) {
-    unsafe {
-        figures_diameter(
-            lists.list.pointer(),
-            lists.list.len,
-            ask.n,
-            ask.asker,
-            ask.a,
-            ask.w,
-            lists.scratch.pointer(),
-            lists.scratch.len,
-            lists.reply.pointer(),
-        )
-    }
-}
-
-fn pivot_diameter(ask: &Ask, lists: &mut Lists) {
-    unsafe {
-        figures_pivot_diameter(
-            lists.list.pointer(),
-            lists.list.len,
-            ask.n,
-            ask.asker,
-            ask.a,
-            ask.w,
-            lists.pivots.pointer(),
-            lists.pivots.len,
-            lists.scratch.pointer(),
-            lists.scratch.len,
-            lists.reply.pointer(),
-        )
-    }
-}
-
-fn office_check(ask: &Ask, lists: &mut Lists) {
-    unsafe {
-        figures_office_check(
-            lists.list.pointer(),
-            lists.list.len,
-            ask.n,
-            lists.reply.pointer(),
-        )
+        match ask.call {
+            Call::DistancesFrom => {
+                figures_distances_from(list, len, n, asker, a, w, stop, out, out_len, reply)
+            }
+            Call::DistancesTo => figures_distances_to(
+                list, len, n, asker, a, w, stop, out, out_len, scratch, room, reply,
+            ),
+            Call::Table => figures_table(list, len, n, asker, a, w, out, out_len, reply),
+            Call::ForwardEccentricity => {
+                figures_forward_eccentricity(list, len, n, asker, a, w, stop, reply)
+            }
+            Call::BackwardEccentricity => {
+                figures_backward_eccentricity(list, len, n, asker, a, w, stop, scratch, room, reply)
+            }
+            Call::Diameter => figures_diameter(list, len, n, asker, a, w, scratch, room, reply),
+            Call::PivotDiameter => figures_pivot_diameter(
+                list, len, n, asker, a, w, pivots, pivots_len, scratch, room, reply,
+            ),
+            Call::OfficeCheck => figures_office_check(list, len, n, reply),
+        }
     }
 }

@@ -1,6 +1,10 @@
 // What comes of a call: its answer, none, or a refusal.
-use crate::raw::{Reply, ANSWER, REFUSED};
+use crate::raw::Reply;
 use std::fmt;
+
+// The first number of a reply.
+const REFUSED: u32 = 0;
+const ANSWER: u32 = 1;
 
 /// Why a call was refused. The call wrote to no lent list.
 #[derive(Clone, Copy, Debug, PartialEq, Eq, Hash)]

@@ -1,10 +1,7 @@
-// The eight calls as include/figures.h declares them. All that is unsafe stands here and in the calls of lib.rs.
+// The eight calls as include/figures.h declares them, the one declaration in Rust.
 
 /// What came of a call, and its four numbers.
 pub type Reply = [u32; 5];
-
-pub const REFUSED: u32 = 0;
-pub const ANSWER: u32 = 1;
 
 #[link(name = "figures_c", kind = "static")]
 extern "C" {

@@ -42,7 +42,7 @@ pub enum Office {
 }
 
 // The eccentricity that a farthest stop shows.
-pub fn eccentricity_of(far: Far) -> Eccentricity
+pub(crate) fn eccentricity_of(far: Far) -> Eccentricity
     ensures { λ r. ⌜ r ≡ eccentricityOf far ⌝ }
 {
     if far.value == 0 {
@@ -52,7 +52,7 @@ pub fn eccentricity_of(far: Far) -> Eccentricity
 }
 
 // The answer that a search ends with.
-pub fn answer_of(st: Search) -> Answer
+pub(crate) fn answer_of(st: Search) -> Answer
     ensures { λ r. ⌜ r ≡ answerOf st ⌝ }
 {
     if st.best == 0 {

@@ -17,7 +17,14 @@ pub enum Prepared {
 }
 
 // Numbers 1 to 6, and the asker's rows in the front of `rows`.
-pub fn prepare(list: &[u32], n: u32, asker: u32, a: u32, w: u32, rows: &mut [u32]) -> Prepared
+pub(crate) fn prepare(
+    list: &[u32],
+    n: u32,
+    asker: u32,
+    a: u32,
+    w: u32,
+    rows: &mut [u32],
+) -> Prepared
     requires { ⌜ mostRows * rowWidth ≤ length (now rows) ⌝ }
     ensures { λ r. ⌜ Prepares (ask (now (list .entry)) n asker a w) (now (rows .entry)) r (now (rows .exit)) ⌝ }
 {

@@ -15,7 +15,7 @@ const MOST_STOPS: u32 = 256;
 pub const SCRATCH: usize = 16384;
 
 // Numbers 1, 2 and 3.
-pub fn list_check(list: &[u32], n: u32) -> Verdict
+pub(crate) fn list_check(list: &[u32], n: u32) -> Verdict
     ensures { λ r. ⌜ Judges (listChecks (now (list .entry)) n) r ⌝ }
 {
     if list.len() % ROW_WIDTH != 0 {
@@ -46,7 +46,7 @@ pub fn list_check(list: &[u32], n: u32) -> Verdict
 }
 
 // Numbers 1 to 5.
-pub fn plain_check(list: &[u32], n: u32, asker: u32, a: u32, w: u32) -> Verdict
+pub(crate) fn plain_check(list: &[u32], n: u32, asker: u32, a: u32, w: u32) -> Verdict
     ensures { λ r. ⌜ Judges (plainChecks (ask (now (list .entry)) n asker a w)) r ⌝ }
 {
     let v = list_check(list, n);

@@ -25,7 +25,7 @@ use passes::reach_back;
 use search::PIVOT_PLACES;
 
 // The legs of own rows in the front of `legs`, with their links; answers where the legs end.
-pub fn lay_legs(
+pub(crate) fn lay_legs(
     rows: &[u32],
     a: u32,
     w: u32,
@@ -76,7 +76,7 @@ fn lay_pivot(
 }
 
 // The numbers of all pivots.
-pub fn lay_pivots(
+pub(crate) fn lay_pivots(
     legs: &[u32],
     pivots: &[u32],
     n: usize,

@@ -49,7 +49,7 @@ fn first_astray(pivots: &[u32], n: u32, a: u32, w: u32) -> Verdict
 }
 
 // Numbers 8 and 9.
-pub fn pivots_check(pivots: &[u32], n: u32, a: u32, w: u32) -> Verdict
+pub(crate) fn pivots_check(pivots: &[u32], n: u32, a: u32, w: u32) -> Verdict
     ensures { λ r. ⌜ Judges (check-8 (now (pivots .entry)) ∷ check-9 n a w (pivotsOf (now (pivots .entry))) ∷ []) r ⌝ }
 {
     if pivots.len() % PIVOT_WIDTH != 0 {

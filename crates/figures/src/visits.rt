@@ -20,7 +20,7 @@ use search::keep_joined;
 use search::next_target;
 
 // The farthest source of a target.
-pub fn far_to(
+pub(crate) fn far_to(
     legs: &[u32],
     head: &[u32; 256],
     next: &[u32; 2049],
@@ -39,7 +39,7 @@ pub fn far_to(
 }
 
 // The search over all targets, of n stops with their bounds.
-pub fn visit_all(
+pub(crate) fn visit_all(
     legs: &[u32],
     head: &[u32; 256],
     next: &[u32; 2049],
@@ -97,7 +97,7 @@ fn far_joined(
 }
 
 // The same search with only joined sources counted.
-pub fn visit_joined(
+pub(crate) fn visit_joined(
     legs: &[u32],
     head: &[u32; 256],
     next: &[u32; 2049],

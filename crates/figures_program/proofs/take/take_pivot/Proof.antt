@@ -1,5 +1,6 @@
 -- The pivot goes to its place, if there is room.
 use mathlib.Core.Path.{_≡_, refl, ap}
+use native.Mathlib.Omega.{arith}
 use borrow.Author.Tests.{le-leb, lt-leb}
 use Rattle.rules.specs.Pivots.{mostPivots}
 use Rattle.figures_program.specs.declared.day.Next.the-variants as next
@@ -12,7 +13,7 @@ stop-requires c κs = search needs
 
 returns : tie.Need-returns
 returns c =
-    let e = le-leb mostPivots (c .before .before .args .day .pivots) (c .before .if1 .taken) in (c .stop .ensures .0, (rw e (c .stop .ensures .1), rw e refl))
+    let e = le-leb mostPivots (c .before .before .args .day .pivots) (omega (arith, c .before .if1 .taken)) in (c .stop .ensures .0, (rw e (c .stop .ensures .1), rw e refl))
 
 mul-at : tie.Need-mul-at
 mul-at c = search needs
