@@ -1,5 +1,1 @@
-pub mod Room
-pub mod Days
-pub mod Taken
-pub mod Lines
-pub mod Laws
+pub mod Reads

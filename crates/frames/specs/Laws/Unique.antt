@@ -61,7 +61,7 @@ text-unique line f g s t =
     sym (frame-of f) ∙ ap frameOf same ∙ frame-of g
 
 -- a promised outcome is nothing, or a frame whose text the line is
-promised : (line : List ℕ) (r : Frame) → ReadPromise line r → ((r ≡ Nothing) × ((f : Frame) → IsTextOf f line → ⊥)) ⊎ IsTextOf r line
+pub promised : (line : List ℕ) (r : Frame) → ReadPromise line r → ((r ≡ Nothing) × ((f : Frame) → IsTextOf f line → ⊥)) ⊎ IsTextOf r line
 unfolding ReadPromise
 promised line (Stops n) h = inr h
 promised line (Row from to start travel owner) h = inr h

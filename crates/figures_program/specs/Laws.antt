@@ -1,2 +1,0 @@
--- Laws of what frames do.
-pub mod Unique

@@ -1,0 +1,3 @@
+-- Laws of the lines of the output.
+pub mod Spelling
+pub mod Puts
