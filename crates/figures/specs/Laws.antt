@@ -4,4 +4,6 @@ pub mod Inner
 pub mod Exists
 pub mod Isolated
 pub mod Numbers
+pub mod None
+pub mod Skipped
 pub mod Starred
