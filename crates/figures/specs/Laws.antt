@@ -3,6 +3,7 @@ pub mod Unique
 pub mod Inner
 pub mod Exists
 pub mod Isolated
+pub mod Outcome
 pub mod Numbers
 pub mod None
 pub mod Skipped

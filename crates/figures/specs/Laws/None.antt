@@ -38,13 +38,9 @@ module _ (cs : List Check) (X Y : Type 0) where
   search-none Pair Bound there nowhere (answer.Refused k p) h answered = absurd (answered k p refl)
 
 module _ (q : Ask) where
-  -- u and v differ, and a compatible route leads from u to v
-  abbrev pub Routed : (u v : ℕ) → Type 0
-  Routed u v = (u ≢ v) × Compatible (asker's-day q) (q .A) (q .W) u v
-
   -- the forward eccentricity is none exactly if no other stop is reached from the source
   pub forward-none : (source : ℕ) (r : Eccentricity) → ForwardEccentricityPromise q source r → ((number place : ℕ) → r ≢ eccentricity.Refused number place)
-      → (r ≡ eccentricity.Nothing) ↔ ((v : ℕ) → Routed source v → ⊥)
+      → (r ≡ eccentricity.Nothing) ↔ ((v : ℕ) → (source ≢ v) × Compatible (asker's-day q) (q .A) (q .W) source v → ⊥)
   unfolding ForwardEccentricityPromise
   forward-none source =
       eccentricity-none _ _ _ (Pairs q source) (λ v d p. (p .differ, counted-has-route q p))
@@ -52,7 +48,7 @@ module _ (q : Ask) where
 
   -- the backward eccentricity, exactly if the target is reached from no other stop
   pub backward-none : (target : ℕ) (scratch : List ℕ) (r : Eccentricity) (scratch′ : List ℕ) → BackwardEccentricityPromise q target scratch r scratch′
-      → ((number place : ℕ) → r ≢ eccentricity.Refused number place) → (r ≡ eccentricity.Nothing) ↔ ((u : ℕ) → Routed u target → ⊥)
+      → ((number place : ℕ) → r ≢ eccentricity.Refused number place) → (r ≡ eccentricity.Nothing) ↔ ((u : ℕ) → (u ≢ target) × Compatible (asker's-day q) (q .A) (q .W) u target → ⊥)
   unfolding BackwardEccentricityPromise
   backward-none target scratch r scratch′ =
       eccentricity-none _ _ _ (λ u. Pairs q u target) (λ u d p. (p .differ, counted-has-route q p))
@@ -60,7 +56,7 @@ module _ (q : Ask) where
 
   -- the diameter, exactly if no stop is reached from another
   pub diameter-none : (scratch : List ℕ) (r : Answer) (scratch′ : List ℕ) → DiameterPromise q scratch r scratch′ → ((number place : ℕ) → r ≢ answer.Refused number place)
-      → ((visits : ℕ) × (r ≡ answer.Nothing visits)) ↔ ((u v : ℕ) → Routed u v → ⊥)
+      → ((visits : ℕ) × (r ≡ answer.Nothing visits)) ↔ ((u v : ℕ) → (u ≢ v) × Compatible (asker's-day q) (q .A) (q .W) u v → ⊥)
   unfolding DiameterPromise
   diameter-none scratch r scratch′ =
       search-none _ _ _ _ _ (λ u v d p. (p .differ, counted-has-route q p)) (λ clear u v none r. uncounted-has-no-route q _ clear u v (r .0) none (r .1)) r
