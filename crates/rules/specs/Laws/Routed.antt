@@ -1,5 +1,4 @@
--- A pair that counts has a route; and where the table is clear, a route from one stop to another, or a pivot that joins
--- them, makes them a pair that counts.
+-- A pair that counts has a route; and where the table is clear, a pair that does not count has none and is not joined.
 use Prim.Native.Nat.{ℕ, _-_, _<_}
 use mathlib.Core.Path.{_≡_, refl, subst}
 use mathlib.Core.Logic.{_≢_}
