@@ -4,3 +4,4 @@ pub mod Answered
 pub mod Starred
 pub mod Pivots
 pub mod Laws
+pub mod Demands

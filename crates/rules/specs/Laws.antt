@@ -5,6 +5,8 @@ pub mod Good
 pub mod Joined
 pub mod Checks
 pub mod Decided
+pub mod Routed
+pub mod Skipped
 pub mod Written
 pub mod Rows
 pub mod Filled

@@ -15,11 +15,12 @@ use Rattle.rules.specs.Diameter.{Entry, LatestEntry, counted}
 use Rattle.rules.specs.Pivots.{Pivot, Under, LatestUnder}
 use Rattle.rules.specs.Laws.Good.{Good, moves}
 use Rattle.rules.specs.Laws.Joined.{Sits, join}
+use Rattle.rules.specs.Laws.Routed.{last-row}
 use Rattle.passes.specs.Laws.Chains.{rowsDay}
 use Rattle.passes.specs.Laws.Distance.{dist}
 use Rattle.search.specs.declared.far.Far.{Far}
 use Rattle.search.specs.Laws.Greatest.{TellsPairs, isValue, leastOf, least-below, LeastBelow, is-value, value-is, eccTo, backward-right, not-both}
-use Rattle.search.specs.Laws.Pairs.{ReachedPairs, ReachedJoined, last-row, pairOf, joinedPairOf, boundOf, bound-greatest, pivotBoundOf, pivot-bound-greatest, onward-dist, flip, reachedb, reached-yes}
+use Rattle.search.specs.Laws.Pairs.{ReachedPairs, ReachedJoined, pairOf, joinedPairOf, boundOf, bound-greatest, pivotBoundOf, pivot-bound-greatest, onward-dist, flip, reachedb, reached-yes}
 use Rattle.search.specs.Laws.Visiting.{IsFar}
 
 last-start : {rs : List Row} {f l : Row} → Route (rowsDay rs) f l → f .start ≤ l .start

@@ -11,13 +11,14 @@ use borrow.Author.Tests.{eqb-true, eqb-false, eq-eqb, ne-eqb, leb-true, le-leb}
 use Rattle.rules.specs.Words.{Greatest, GreatestIfAny}
 use Rattle.rules.specs.Clock.{horizon}
 use Rattle.rules.specs.Day.{Row, arrival}
-use Rattle.rules.specs.Routes.{Route, ride, onto, Compatible, Dist, unreached, after, Earliest, itself, reached, no-route}
+use Rattle.rules.specs.Routes.{Compatible, Dist, unreached, after, Earliest, itself, reached, no-route}
 use Rattle.rules.specs.Eccentricity.{Reached}
 use Rattle.rules.specs.Diameter.{Entry, LatestEntry}
 use Rattle.rules.specs.Pivots.{Pivot, Joined, Under, LatestUnder}
 use Rattle.rules.specs.Laws.Single.{if-any-single, distance-single}
 use Rattle.rules.specs.Laws.Good.{Good, good-sound}
 use Rattle.rules.specs.Laws.Joined.{Sits}
+use Rattle.rules.specs.Laws.Routed.{last-row}
 use Rattle.passes.specs.Laws.Chains.{rowsDay}
 use Rattle.passes.specs.Laws.Distance.{dist, dist-right}
 use Rattle.search.specs.Laws.Greatest.{greatestOf, greatest-of-all, Has, TellsPairs, if-any-iff, not-none, some-same, not-both}
@@ -53,10 +54,6 @@ figure-is P o b h k = if-any-single P o (some b) h k
 
 is-figure : (P : ℕ → Type 0) (o : Option ℕ) (b : ℕ) → GreatestIfAny P o → o ≡ some b → Greatest P b
 is-figure P o b h e = subst (GreatestIfAny P) e h
-
-pub last-row : {rs : List Row} {f l : Row} → Route (rowsDay rs) f l → List·Memᴰ l rs
-last-row (ride m) = m
-last-row (onto m w p) = last-row p
 
 three : (a b c : Bool) {x : Option ℕ} {d : ℕ} → cond (a && (b && c)) x none ≡ some d → (a ≡ true) × (b ≡ true) × (c ≡ true) × (x ≡ some d)
 three true true true e = (refl, refl, refl, e)

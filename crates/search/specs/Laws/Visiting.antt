@@ -13,6 +13,7 @@ use Rattle.rules.specs.Words.{Least, Greatest}
 use Rattle.rules.specs.Eccentricity.{Backward}
 use Rattle.rules.specs.Diameter.{Before, bound-falls, number-rises, Sorted, sorted-more, counted, Visits, First, here, further, Shown, NoneShown}
 use Rattle.rules.specs.Laws.Single.{greatest-single, least-single}
+use Rattle.rules.specs.Laws.Skipped.{first-member}
 use Rattle.search.specs.declared.far.Far.{Far}
 use Rattle.search.specs.declared.state.Search.{Search}
 use Rattle.search.specs.Visits.{begun, visited}
@@ -96,10 +97,6 @@ pub data Came (far : ℕ → Far) (st : Search) (vs : List ℕ) (st′ : Search)
   stays : st′ .best ≡ st .best → st′ .source ≡ st .source → st′ .target ≡ st .target → ((q : ℕ) → List·Memᴰ q vs → far q .value ≤ st .best) → Came far st vs st′
   beaten : (v : ℕ) → st′ .target ≡ v → st′ .source ≡ far v .source → st′ .best ≡ far v .value → st .best < far v .value
       → First (λ q. far q .value ≡ far v .value) vs v → ((q : ℕ) → List·Memᴰ q vs → far q .value ≤ far v .value) → Came far st vs st′
-
-first-member : {P : ℕ → Type 0} {vs : List ℕ} {v : ℕ} → First P vs v → List·Memᴰ v vs
-first-member (here p) = List·Memᴰ·head refl
-first-member (further p x) = List·Memᴰ·tail (first-member x)
 
 module _ {Bound : ℕ → ℕ → Type 0} (n : ℕ) (g : ℕ → Option ℕ) (bounds : TellsBounds n g Bound) (far : ℕ → Far) where
   no-later : (v q : ℕ) → Before Bound v q → counted (g q) ≤ counted (g v)
