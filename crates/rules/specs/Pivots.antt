@@ -34,7 +34,8 @@ pub record Joined (day : Day) (A W : ℕ) (pivots : List Pivot) (u v : ℕ) : Ty
   pub listed : List·Memᴰ pivot pivots
   pub joins : Joins day A W u v pivot
 
--- v's bound under one pivot that reaches it by W: the earliest arrival from its stop, starting at its reading or later, less A
+-- v's bound under one pivot that reaches it by W: the earliest arrival from its stop, starting at its reading or later, less A;
+-- the time is counted from the pivot's reading, the bound from A
 pub record Under (day : Day) (A W v b : ℕ) (p : Pivot) : Type 0 where
   pub time : ℕ
   pub reaches : Earliest day (p .reading) W (p .stop) v (after time)
