@@ -14,7 +14,7 @@ use Rattle.rules.specs.Table.{rowFault, check-6, officeRows, FirstWrong}
 use Rattle.rules.specs.Laws.Single.{least-single}
 use Rattle.rules.specs.Laws.Good.{at-same}
 use Rattle.day.specs.Rows.{soundb, rightb}
-use Rattle.day.specs.Verdicts.{Refusal, firstSaid, faultSays, officeSays, verdictOf, Judges}
+use Rattle.day.specs.Verdicts.{Refusal, firstSaid, faultSays, officeNumber, officeSays, verdictOf, Judges}
 use Rattle.day.proofs.Sounding.{both, not-both, sound-of, of-sound}
 use Rattle.day.proofs.Saying.{startBefore, SaidAt, FirstSaidAt, Finds, first-said-finds}
 
@@ -108,7 +108,7 @@ right-faultless {n} {rs} {i} {r} a e f =
 said-noted : {n : ℕ} {rs : List Row} {i k : ℕ} → SaidAt (officeSays n) 0 rs i k → Noted n rs i k
 said-noted {n} {rs} {i} {k} s = go (rightb n (startBefore 0 rs i) (s .row)) refl (ltb lastClient (s .row .owner)) refl (s .said)
   where
-    go : (a : Bool) → rightb n (startBefore 0 rs i) (s .row) ≡ a → (b : Bool) → ltb lastClient (s .row .owner) ≡ b → cond a (cond b (some 11) none) (some rowFault) ≡ some k → Noted n rs i k
+    go : (a : Bool) → rightb n (startBefore 0 rs i) (s .row) ≡ a → (b : Bool) → ltb lastClient (s .row .owner) ≡ b → officeNumber a b ≡ some k → Noted n rs i k
     go false e b f p = noted-fault {k = k} (cc) (wrong-faulty (record { row = s .row; at = s .at; fails = e }))
     go true e true f p = noted-owner {k = k} (cc) (overowned (s .at) (ltb-true _ _ f)) (right-faultless (s .at) e)
     go true e false f p = let z : _≡_ {A = ℕ} 0 1 = cc in absurd (omega arith)

@@ -1,6 +1,6 @@
 -- What the contracts on checks cite: a scan for the first row of which something is said, and what a verdict means.
 use Prim.Native.Nat.{ℕ, _+_}
-use mathlib.Core.Bool.{cond}
+use mathlib.Core.Bool.{Bool, cond}
 use mathlib.Core.List.{List, [], _∷_}
 use mathlib.Core.Option.{Option, none, some}
 use lib.Dec.{ltb}
@@ -29,9 +29,12 @@ firstSaid says last place (r ∷ rs) = let rest = firstSaid says (r .start) (pla
 abbrev pub faultSays : (n last : ℕ) → Row → Option ℕ
 faultSays n last r = cond (rightb n last r) none (some rowFault)
 
--- 6 for a fault, else 11 for an owner above 255
+-- 6 where the row is not right, else 11 where its owner is above 255
+abbrev pub officeNumber : (right above : Bool) → Option ℕ
+officeNumber right above = cond right (cond above (some 11) none) (some rowFault)
+
 abbrev pub officeSays : (n last : ℕ) → Row → Option ℕ
-officeSays n last r = cond (rightb n last r) (cond (ltb lastClient (r .owner)) (some 11) none) (some rowFault)
+officeSays n last r = officeNumber (rightb n last r) (ltb lastClient (r .owner))
 
 abbrev pub verdictOf : Option Refusal → Verdict
 verdictOf none = Fine

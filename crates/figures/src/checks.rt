@@ -2,6 +2,7 @@
 ghost use Rattle.day.specs.Verdicts.{Judges};
 ghost use Rattle.figures.specs.Parts.{listChecks, plainChecks};
 ghost use Rattle.figures.specs.Promises.{ask};
+use clock::Made;
 use clock::Reading;
 use day::LAST_CLIENT;
 use day::MOST_ROWS;
@@ -65,12 +66,11 @@ pub(crate) fn plain_check(list: &[u32], n: u32, asker: u32, a: u32, w: u32) -> V
             place: 0,
         };
     }
-    let last = Reading::HORIZON;
-    if w > last.0 {
-        return Verdict::Refused {
+    match Reading::of(w) {
+        Made::At(_) => Verdict::Fine,
+        Made::Past => Verdict::Refused {
             number: 5,
             place: 0,
-        };
+        },
     }
-    Verdict::Fine
 }

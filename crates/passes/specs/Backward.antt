@@ -4,10 +4,10 @@ use mathlib.Core.Path.{_≡_}
 use mathlib.Core.Bool.{cond, _&&_}
 use mathlib.Core.List.{List, [], _∷_}
 use lib.Dec.{eqb, leb}
-use lib.ListN.{length, getD}
+use lib.ListN.{length, getD, set}
 use Rattle.rules.specs.Day.{Row, arrival}
 use Rattle.passes.specs.Forward.{nowhere}
-use Rattle.passes.specs.Links.{linkPlaces, legCount, legNo, legsPast}
+use Rattle.passes.specs.Links.{linkPlaces, legCount, legNo, legsPast, Beside}
 
 -- by one leg: it enters the target, or x is the earliest arrival by what may follow it
 abbrev pub by : (target : ℕ) → Row → (x : ℕ) → ℕ
@@ -29,6 +29,11 @@ pub record Swept (list : List ℕ) (target k : ℕ) (best : List ℕ) : Type 0 w
   pub long : length best ≡ linkPlaces
   pub none : getD best 0 0 ≡ nowhere
   pub each : (x : ℕ) → k < x → x ≤ legCount list → getD best x 0 ≡ earliestBy list target x
+
+-- all legs are swept: place 0, which is for no leg, is nowhere, and the places past the legs are kept
+pub record Sweeps (list : List ℕ) (target : ℕ) (old new : List ℕ) : Type 0 where
+  pub swept : Swept list target 0 new
+  pub kept : Beside list 0 (set old 0 nowhere) new
 
 -- what stands for the distance from stop u to the target
 abbrev pub distanceTo : (target : ℕ) → List Row → (u : ℕ) → ℕ

@@ -8,7 +8,7 @@ ghost use lib.ListN.{length, drop};
 ghost use Rattle.rules.specs.Day.{mostStops};
 ghost use Rattle.passes.specs.Legs.{legsIn};
 ghost use Rattle.passes.specs.Links.{linkPlaces, Orderly, Threaded, Linked};
-ghost use Rattle.passes.specs.Backward.{Swept, distancesTo};
+ghost use Rattle.passes.specs.Backward.{Sweeps, distancesTo};
 use crate::forward::UNREACHED;
 use crate::forward::least;
 use crate::legs::LEG_WIDTH;
@@ -26,7 +26,7 @@ fn arrival_by(leg: Leg, target: u32, x: u32) -> u32
     x
 }
 
-// For each leg the earliest arrival at the target by it or a later leg of its from-stop.
+// For each leg the earliest arrival at the target by it or a later leg of its from-stop; a place past the legs is kept.
 fn sweep(
     legs: &[u32],
     next: &[u32; 2049],
@@ -37,7 +37,7 @@ fn sweep(
     requires { ⌜ Orderly (now legs) ⌝ }
     requires { ⌜ Threaded (now legs) 0 (now next) (now follow) ⌝ }
     requires { ⌜ length (now best) ≡ linkPlaces ⌝ }
-    ensures { λ _. ⌜ Swept (now (legs .entry)) target 0 (now (best .exit)) ⌝ }
+    ensures { λ _. ⌜ Sweeps (now (legs .entry)) target (now (best .entry)) (now (best .exit)) ⌝ }
 {
     best[0] = UNREACHED;
     let mut k = legs.len() / LEG_WIDTH;

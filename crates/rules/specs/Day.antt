@@ -78,7 +78,7 @@ pub data Faulty (n : ℕ) (rs : List Row) (i : ℕ) : Type 0 where
 pub data Overowned (rs : List Row) (i : ℕ) : Type 0 where
   overowned : {r : Row} → At rs i r → lastClient < r .owner → Overowned rs i
 
--- what routes read of a day
+-- what routes read of a day; every definition on routes takes the day whole, so that this is said in one place
 pub record Day : Type 0 where
   pub rows : List Row
 

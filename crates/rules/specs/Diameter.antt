@@ -54,12 +54,12 @@ pub data First (P : ℕ → Type 0) : List ℕ → ℕ → Type 0 where
 
 -- the greatest distance over all pairs is d, shown by the pair from u to v, after so many visits
 pub record Shown (Pair : ℕ → ℕ → ℕ → Type 0) (Bound : ℕ → ℕ → Type 0) (d u v visits : ℕ) : Type 0 where
-  pub greatest : Greatest (λ d. (u : ℕ) × (v : ℕ) × Pair u v d) d
+  pub greatest : Greatest (λ distance. (from : ℕ) × (to : ℕ) × Pair from to distance) d
   pub order : List ℕ
   pub targets : Targets Bound order
   pub taken : Visits Pair Bound order 0 visits
-  pub target : First (λ v. Backward Pair v (some d)) order v
-  pub source : Least (λ u. Pair u v d) u
+  pub target : First (λ to. Backward Pair to (some d)) order v
+  pub source : Least (λ from. Pair from v d) u
 
 -- no pair counts, and so many visits
 pub record NoneShown (Pair : ℕ → ℕ → ℕ → Type 0) (Bound : ℕ → ℕ → Type 0) (visits : ℕ) : Type 0 where

@@ -13,7 +13,7 @@ use Rattle.rules.specs.Lent.{Stands}
 abbrev pub DistanceOf : Ask → (u v number : ℕ) → Type 0
 DistanceOf q = Stands (asker's-day q) (q .A) (q .W)
 
--- the table: each source u has its own stretch, from place u × n
+-- the table: each source u has its own stretch, from place u × n; a place below n × n is u × n + v for one u and one v below n
 abbrev pub TableOf : Ask → (place number : ℕ) → Type 0
 TableOf q place number = (u v : ℕ) → u < q .n → v < q .n → place ≡ u * q .n + v → DistanceOf q u v number
 

@@ -22,11 +22,19 @@ pivotsOf [] = []
 pivotsOf (p ∷ []) = []
 pivotsOf (p ∷ s ∷ xs) = record { stop = p; reading = s } ∷ pivotsOf xs
 
--- the pivot joins u to v: from u to its stop, from A on and by its reading; then to v, from its reading on and by W
+-- u is the pivot's stop, or a route from u that starts at A or later reaches it by its reading
+abbrev pub Into : (day : Day) (A u : ℕ) → Pivot → Type 0
+Into day A u p = (u ≡ p .stop) ⊎ Compatible day A (p .reading) u (p .stop)
+
+-- v is the pivot's stop, or a route from there that starts at its reading or later reaches v by W
+abbrev pub Onward : (day : Day) (W v : ℕ) → Pivot → Type 0
+Onward day W v p = (v ≡ p .stop) ⊎ Compatible day (p .reading) W (p .stop) v
+
+-- the pivot joins u to v: into it from u, then onward to v
 pub record Joins (day : Day) (A W u v : ℕ) (p : Pivot) : Type 0 where
   pub differ : u ≢ v
-  pub into : (u ≡ p .stop) ⊎ Compatible day A (p .reading) u (p .stop)
-  pub onward : (v ≡ p .stop) ⊎ Compatible day (p .reading) W (p .stop) v
+  pub into : Into day A u p
+  pub onward : Onward day W v p
 
 -- joined by at least one pivot
 pub record Joined (day : Day) (A W : ℕ) (pivots : List Pivot) (u v : ℕ) : Type 0 where
@@ -34,7 +42,8 @@ pub record Joined (day : Day) (A W : ℕ) (pivots : List Pivot) (u v : ℕ) : Ty
   pub listed : List·Memᴰ pivot pivots
   pub joins : Joins day A W u v pivot
 
--- v's bound under one pivot that reaches it by W: the earliest arrival from its stop, starting at its reading or later, less A
+-- v's bound under one pivot that reaches it by W: the earliest arrival from its stop, starting at its reading or later, less A;
+-- the time is counted from the pivot's reading, the bound from A
 pub record Under (day : Day) (A W v b : ℕ) (p : Pivot) : Type 0 where
   pub time : ℕ
   pub reaches : Earliest day (p .reading) W (p .stop) v (after time)

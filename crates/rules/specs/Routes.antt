@@ -6,7 +6,8 @@ use mathlib.Core.List.{List·Memᴰ}
 use Rattle.rules.specs.Words.{Least}
 use Rattle.rules.specs.Day.{Row, arrival, Day}
 
--- r may follow q: it starts at the stop where q ended, and not before q's arrival
+-- r may follow q: it starts at the stop where q ended, and not before q's arrival. It takes the day, as every definition on routes
+-- does, and reads nothing of it
 pub record Follows (day : Day) (q r : Row) : Type 0 where
   pub meets : r .from ≡ q .to
   pub waits : arrival q ≤ r .start

@@ -1,6 +1,6 @@
 -- The search as its state goes from visit to visit.
 use Prim.Native.Nat.{ℕ, zero, suc, _+_}
-use mathlib.Core.Bool.{cond}
+use mathlib.Core.Bool.{Bool, cond}
 use mathlib.Core.List.{List}
 use lib.Dec.{leb}
 use Rattle.search.specs.declared.far.Far.{Far}
@@ -21,6 +21,10 @@ visited v x st =
     (record { best = st .best; source = st .source; target = st .target; visits = st .visits + 1 })
     (record { best = x .value; source = x .source; target = v; visits = st .visits + 1 })
 
+-- the search stops at a target whose bound is not greater than the best value
+abbrev pub stopsAt : (bound best : ℕ) → Bool
+stopsAt bound best = leb bound best
+
 -- a search goes on with the next target, or ends
 abbrev pub onNext : Next → Search → (Place → Search) → Search
 onNext End st more = st
@@ -31,4 +35,4 @@ unfoldable pub searched : (far : ℕ → Far) (bs : List ℕ) (n k : ℕ) (last 
 searched far bs n zero last st = st
 searched far bs n (suc k) last st =
     onNext (nextIn bs last n) st
-    (λ p. cond (leb (p .bound) (st .best)) st (searched far bs n k p (visited (p .stop) (far (p .stop)) st)))
+    (λ p. cond (stopsAt (p .bound) (st .best)) st (searched far bs n k p (visited (p .stop) (far (p .stop)) st)))

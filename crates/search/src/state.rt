@@ -1,9 +1,8 @@
 // The state of a search, by value from visit to visit.
 ghost use mathlib.Core.Path.{_≡_};
 ghost use Prim.Native.Nat.{_<_};
-ghost use lib.Dec.{leb};
 ghost use Rattle.rules.specs.Day.{mostStops};
-ghost use Rattle.search.specs.Visits.{begun, visited};
+ghost use Rattle.search.specs.Visits.{begun, visited, stopsAt};
 use crate::far::Far;
 use crate::targets::Place;
 
@@ -30,7 +29,7 @@ impl Search {
 
     // Whether the search stops at a target: its bound is not greater than the best value.
     pub fn stops_at(self, place: Place) -> bool
-        ensures { λ r. ⌜ r ≡ leb (place .bound) (self .best) ⌝ }
+        ensures { λ r. ⌜ r ≡ stopsAt (place .bound) (self .best) ⌝ }
     {
         place.bound <= self.best
     }

@@ -1,7 +1,7 @@
 -- The scan back from a pivot knows every route that reaches it in time, and nothing else.
 use Prim.Native.Nat.{ℕ, zero, suc, _+_, _-_, _≤_, _<_, max}
 use mathlib.Core.Path.{_≡_, refl, ap, sym, _∙_}
-use mathlib.Core.Logic.{_≢_, _⊎_, inl, inr, _↔_}
+use mathlib.Core.Logic.{_≢_, inl, inr, _↔_}
 use mathlib.Core.Bool.{Bool, true, false, cond}
 use mathlib.Core.List.{List, [], _∷_, _++_, List·Memᴰ·head, List·Memᴰ·tail}
 use native.Mathlib.Omega.{arith}
@@ -11,8 +11,8 @@ use lib.ListN.{length, getD, set, replicate, length-set, length-replicate, List�
 use lib.Seq.{getD-set-same, getD-set-other, set-append-left}
 use borrow.Author.Tests.{ltb-true, lt-ltb}
 use Rattle.rules.specs.Day.{Row, arrival}
-use Rattle.rules.specs.Routes.{Route, ride, onto, Compatible}
-use Rattle.rules.specs.Pivots.{Pivot}
+use Rattle.rules.specs.Routes.{Route, ride, onto}
+use Rattle.rules.specs.Pivots.{Pivot, Into}
 use Rattle.rules.specs.Laws.Good.{Good, good-more, moves}
 use Rattle.rules.specs.Laws.Joined.{Sits}
 use Rattle.passes.specs.Legs.{legsOf}
@@ -166,7 +166,7 @@ module _ (n p by : ℕ) (pn : p < n) where
 
 -- place u is not 0 exactly where u is the pivot's own stop, or a route from u reaches it in time
 pub reach-back-right : (rs : List Row) (A W n : ℕ) (p : Pivot) (u : ℕ) → Good n rs → Sits n A W p
-    → (getD (intoPivot n A (legsOf A W rs) p) u 0 ≢ 0) ↔ ((u ≡ p .stop) ⊎ Compatible (rowsDay rs) A (p .reading) u (p .stop))
+    → (getD (intoPivot n A (legsOf A W rs) p) u 0 ≢ 0) ↔ Into (rowsDay rs) A u p
 reach-back-right rs A W n p u g s = (λ ne. out (reach-found n (p .stop) by (s .below) ls good u) ne, back)
   where
     ls : List Row
@@ -178,14 +178,14 @@ reach-back-right rs A W n p u g s = (λ ne. out (reach-found n (p .stop) by (s .
     good : Good n ls
     good = legs-good n A W rs g
 
-    out : {y : ℕ} → Back ls (p .stop) by u y → y ≢ 0 → (u ≡ p .stop) ⊎ Compatible (rowsDay rs) A (p .reading) u (p .stop)
+    out : {y : ℕ} → Back ls (p .stop) by u y → y ≢ 0 → Into (rowsDay rs) A u p
     out too-late ne = absurd (ne refl)
     out (at-stop e) ne = inl e
     out (by-route f l t a b c) ne =
         inr (compatible-behind A W rs A (p .reading) 0 by (omega arith) (omega (arith, s .not-before)) (s .not-after) u (p .stop)
         (record { first = f; last = l; route = t; leaves = a; enters = b; begins = omega arith; ends = c }) .0)
 
-    back : (u ≡ p .stop) ⊎ Compatible (rowsDay rs) A (p .reading) u (p .stop) → getD (reachedBack ls (reachInit by (p .stop) n)) u 0 ≢ 0
+    back : Into (rowsDay rs) A u p → getD (reachedBack ls (reachInit by (p .stop) n)) u 0 ≢ 0
     back (inl e) z = omega (arith, own-stop n (p .stop) by (s .below) ls good, rw e at z)
     back (inr t) z =
         let k = legs-compatible A W rs A (p .reading) 0 by (omega arith) (omega (arith, s .not-before)) (s .not-after) u (p .stop) t .0 in

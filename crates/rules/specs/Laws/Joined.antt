@@ -1,7 +1,7 @@
 -- A joined pair always has a compatible route: number 12 is never given.
 use Prim.Native.Nat.{ℕ, zero, suc, _+_, _%_, _≤_, _<_}
 use mathlib.Core.Path.{_≡_, refl, ap, sym, _∙_}
-use mathlib.Core.Logic.{_≢_, _⊎_, inl, inr}
+use mathlib.Core.Logic.{_≢_, inl, inr}
 use mathlib.Core.List.{List, [], _∷_, _++_, List·Memᴰ, List·Memᴰ·head, List·Memᴰ·tail, List·Memᴰ·not-nil}
 use native.Mathlib.Omega.{arith}
 use native.Mathlib.Decide.{decLe}
@@ -9,7 +9,7 @@ use lib.ListN.{length}
 use Rattle.rules.specs.Words.{Least, Any, At, at-first, at-later}
 use Rattle.rules.specs.Day.{Row, Day, Ask, asker's-day}
 use Rattle.rules.specs.Routes.{Follows, Route, ride, onto, Compatible}
-use Rattle.rules.specs.Pivots.{Pivot, pivotsOf, Joins, Joined, Astray, no-stop, too-early, too-late}
+use Rattle.rules.specs.Pivots.{Pivot, pivotsOf, Into, Onward, Joins, Joined, Astray, no-stop, too-early, too-late}
 use Rattle.rules.specs.Table.{Check, when, atFirst, Takes, Unrouted, table, Clear, Refuses}
 use Rattle.rules.specs.Laws.Good.{none-if-no-least}
 
@@ -27,7 +27,7 @@ pub record Sits (n A W : ℕ) (p : Pivot) : Type 0 where
 pub joins-has-route : {day : Day} {A W u v : ℕ} {p : Pivot} → A ≤ p .reading → p .reading ≤ W → Joins day A W u v p → Compatible day A W u v
 joins-has-route {day} {A} {W} {u} {v} {p} a w j = go (j .into) (j .onward)
   where
-    go : (u ≡ p .stop) ⊎ Compatible day A (p .reading) u (p .stop) → (v ≡ p .stop) ⊎ Compatible day (p .reading) W (p .stop) v → Compatible day A W u v
+    go : Into day A u p → Onward day W v p → Compatible day A W u v
     go (inl e) (inl f) = absurd (j .differ (e ∙ sym f))
     go (inl e) (inr o) =
         record { first = o .first; last = o .last; route = o .route; leaves = o .leaves ∙ sym e; enters = o .enters; begins = omega arith; ends = o .ends }

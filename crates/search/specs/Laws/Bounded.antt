@@ -1,7 +1,7 @@
 -- A pair's distance is at least 1 and at most its target's bound; and each target has a farthest source.
 use Prim.Native.Nat.{ℕ, _+_, _-_, _≤_, _<_}
 use mathlib.Core.Path.{_≡_, refl, sym, _∙_}
-use mathlib.Core.Logic.{_≢_, _⊎_, inl, inr}
+use mathlib.Core.Logic.{_≢_, inl, inr}
 use mathlib.Core.Bool.{true}
 use mathlib.Core.List.{List, List·Memᴰ}
 use mathlib.Core.Option.{Option, none, some}
@@ -12,7 +12,7 @@ use Rattle.rules.specs.Day.{Row, arrival}
 use Rattle.rules.specs.Routes.{Route, ride, onto, Compatible, Dist, unreached, after, Earliest, itself, reached}
 use Rattle.rules.specs.Eccentricity.{Backward}
 use Rattle.rules.specs.Diameter.{Entry, LatestEntry, counted}
-use Rattle.rules.specs.Pivots.{Pivot, Under, LatestUnder}
+use Rattle.rules.specs.Pivots.{Pivot, Into, Under, LatestUnder}
 use Rattle.rules.specs.Laws.Good.{Good, moves}
 use Rattle.rules.specs.Laws.Joined.{Sits, join}
 use Rattle.rules.specs.Laws.Routed.{last-row}
@@ -64,7 +64,7 @@ module _ (rs : List Row) (A W n : ℕ) (g : Good n rs) (aw : A ≤ W) (wh : W �
       go (some b) h = (b, h, h .greatest d entry)
 
 -- a rider into the pivot's stop by its reading may go on along any route from there
-onward-from : {rs : List Row} {A W u v : ℕ} {p : Pivot} → A ≤ p .reading → (u ≡ p .stop) ⊎ Compatible (rowsDay rs) A (p .reading) u (p .stop)
+onward-from : {rs : List Row} {A W u v : ℕ} {p : Pivot} → A ≤ p .reading → Into (rowsDay rs) A u p
     → (o : Compatible (rowsDay rs) (p .reading) W (p .stop) v) → (t : Compatible (rowsDay rs) A W u v) × (arrival (t .last) ≡ arrival (o .last))
 onward-from {rs} {A} {W} {u} {v} {p} a (inl e) o =
     (record { first = o .first; last = o .last; route = o .route; leaves = o .leaves ∙ sym e; enters = o .enters; begins = omega arith; ends = o .ends }, refl)
@@ -83,7 +83,7 @@ onward-from {rs} {A} {W} {u} {v} {p} a (inr i) o = (
 
 module _ (rs : List Row) (A W n : ℕ) (g : Good n rs) (aw : A ≤ W) (wh : W ≤ horizon) (pivots : List Pivot) (sit : (p : Pivot) → List·Memᴰ p pivots → Sits n A W p) where
   -- the distance is at most the time by way of the pivot
-  under-bounds : (u v d : ℕ) (p : Pivot) → Sits n A W p → ReachedPairs rs A W n u v d → (u ≡ p .stop) ⊎ Compatible (rowsDay rs) A (p .reading) u (p .stop)
+  under-bounds : (u v d : ℕ) (p : Pivot) → Sits n A W p → ReachedPairs rs A W n u v d → Into (rowsDay rs) A u p
       → {time : ℕ} → Earliest (rowsDay rs) (p .reading) W (p .stop) v (after time) → d ≤ p .reading + time - A
   under-bounds u v d p s h (inl e) (itself x) = absurd (h .differ (e ∙ x))
   under-bounds u v d p s h (inr i) (itself x) =

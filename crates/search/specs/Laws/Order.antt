@@ -11,6 +11,7 @@ use lib.ListN.{length}
 use borrow.Author.Tests.{leb-true, leb-false}
 use Rattle.rules.specs.Eccentricity.{Backward}
 use Rattle.rules.specs.Diameter.{Before, bound-falls, number-rises, Sorted, sorted-none, sorted-more, Targets, counted, Visits, at-end, stop, visit}
+use Rattle.search.specs.Visits.{stopsAt}
 use Rattle.search.specs.Laws.Greatest.{not-none, some-same, each-cons}
 
 -- whether a stop with the first bound stays before a later stop with the second: an equal bound does
@@ -34,10 +35,17 @@ unfoldable pub order : (ℕ → Option ℕ) → ℕ → List ℕ
 order g zero = []
 order g (suc k) = let o = order g k in withBound (g k) (insert g k o) o
 
+-- where the search stops the bound is not greater than the best value, and where it goes on it is
+pub stops-low : (b best : ℕ) → stopsAt b best ≡ true → b ≤ best
+stops-low b best e = omega (arith, leb-true)
+
+goes-on-high : (b best : ℕ) → stopsAt b best ≡ false → best < b
+goes-on-high b best e = omega (arith, leb-false)
+
 -- how many of the targets are taken, from a best value on
 unfoldable pub taken : (ℕ → Option ℕ) → (ℕ → Option ℕ) → List ℕ → ℕ → ℕ
 taken g ecc [] best = 0
-taken g ecc (v ∷ vs) best = let more = suc (taken g ecc vs (max best (counted (ecc v)))) in cond (leb (counted (g v)) best) 0 more
+taken g ecc (v ∷ vs) best = let more = suc (taken g ecc vs (max best (counted (ecc v)))) in cond (stopsAt (counted (g v)) best) 0 more
 
 -- a target below k
 abbrev pub TargetBelow : (ℕ → Option ℕ) → (k q : ℕ) → Type 0
@@ -183,12 +191,12 @@ module _ {Bound : ℕ → ℕ → Type 0} (n : ℕ) (g : ℕ → Option ℕ) (bo
   taken-right {Pair} ecc right (v ∷ vs) best l = go (l v (List·Memᴰ·head refl)) (taken-right ecc right vs (max best (counted (ecc v))) (λ q m. l q (List·Memᴰ·tail m)))
     where
       go : TargetBelow g n v → Visits Pair Bound vs (max best (counted (ecc v))) (taken g ecc vs (max best (counted (ecc v))))
-          → Visits Pair Bound (v ∷ vs) best (cond (leb (counted (g v)) best) 0 (suc (taken g ecc vs (max best (counted (ecc v))))))
-      go t r = rw (t .1 .1) (pick (leb b best) refl)
+          → Visits Pair Bound (v ∷ vs) best (cond (stopsAt (counted (g v)) best) 0 (suc (taken g ecc vs (max best (counted (ecc v))))))
+      go t r = rw (t .1 .1) (pick (stopsAt b best) refl)
         where
           b : ℕ
           b = t .1 .0
 
-          pick : (c : Bool) → leb b best ≡ c → Visits Pair Bound (v ∷ vs) best (cond c 0 (suc (taken g ecc vs (max best (counted (ecc v))))))
-          pick true x = stop (its v t .1) (leb-true b best x)
-          pick false x = visit (ecc v) (its v t .1) (leb-false b best x) (right v (t .0)) r
+          pick : (c : Bool) → stopsAt b best ≡ c → Visits Pair Bound (v ∷ vs) best (cond c 0 (suc (taken g ecc vs (max best (counted (ecc v))))))
+          pick true x = stop (its v t .1) (stops-low b best x)
+          pick false x = visit (ecc v) (its v t .1) (goes-on-high b best x) (right v (t .0)) r

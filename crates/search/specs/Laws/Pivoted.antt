@@ -12,8 +12,8 @@ use borrow.Author.Tests.{eqb-true, eqb-false, eq-eqb, ne-eqb}
 use Rattle.rules.specs.Words.{At, at-first, at-later}
 use Rattle.rules.specs.Clock.{horizon}
 use Rattle.rules.specs.Day.{Row}
-use Rattle.rules.specs.Routes.{Compatible, unreached, after, Earliest}
-use Rattle.rules.specs.Pivots.{Pivot, Joined, LatestUnder}
+use Rattle.rules.specs.Routes.{unreached, after, Earliest}
+use Rattle.rules.specs.Pivots.{Pivot, Onward, Joined, LatestUnder}
 use Rattle.rules.specs.Lent.{Stands}
 use Rattle.rules.specs.Laws.Single.{distance-single}
 use Rattle.rules.specs.Laws.Good.{Good, at-member, at-below}
@@ -118,11 +118,11 @@ module _ (rs : List Row) (A W n : ℕ) (g : Good n rs) (aw : A ≤ W) (wh : W �
 
     module _ (into : List ℕ) (in-time : LaidOut n pivots (intoPivot n A (legsOf A W rs)) into) (u v : ℕ) (un : u < n) (vn : v < n) (ne : u ≢ v) where
       -- the pivot reaches v exactly where its number is not nowhere
-      onward-reaches : (p : Pivot) → Sits n A W p → getD (onwardPivot n A (legsOf A W rs) p) v 0 ≢ nowhere → (v ≡ p .stop) ⊎ Compatible (rowsDay rs) (p .reading) W (p .stop) v
+      onward-reaches : (p : Pivot) → Sits n A W p → getD (onwardPivot n A (legsOf A W rs) p) v 0 ≢ nowhere → Onward (rowsDay rs) W v p
       unfolding since
       onward-reaches p s h = flip (yes-reached (onward-is rs A W n g wh p s v vn) (rw (ne-eqb (getD (onwardPivot n A (legsOf A W rs) p) v 0) nowhere h)))
 
-      reaches-onward : (p : Pivot) → Sits n A W p → (v ≡ p .stop) ⊎ Compatible (rowsDay rs) (p .reading) W (p .stop) v → getD (onwardPivot n A (legsOf A W rs) p) v 0 ≢ nowhere
+      reaches-onward : (p : Pivot) → Sits n A W p → Onward (rowsDay rs) W v p → getD (onwardPivot n A (legsOf A W rs) p) v 0 ≢ nowhere
       unfolding since
       reaches-onward p s h e =
           not-both (reached-yes (onward-is rs A W n g wh p s v vn) (flip h)) (rw (eq-eqb (getD (onwardPivot n A (legsOf A W rs) p) v 0) nowhere e))

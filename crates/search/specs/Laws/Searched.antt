@@ -5,7 +5,6 @@ use mathlib.Core.Logic.{inl, inr}
 use mathlib.Core.Bool.{true, false, cond}
 use mathlib.Core.List.{List, [], _∷_, List·Memᴰ}
 use native.Mathlib.Omega.{arith}
-use lib.Dec.{leb}
 use lib.ListN.{length}
 use Rattle.rules.specs.Clock.{horizon}
 use Rattle.rules.specs.Day.{Row}
@@ -23,7 +22,7 @@ use Rattle.search.specs.declared.targets.Next.{Next}
 use Rattle.search.specs.declared.targets.Next.the-variants.{At, End}
 use Rattle.search.specs.declared.state.Search.{Search}
 use Rattle.search.specs.Targets.{beforeAll, nextIn}
-use Rattle.search.specs.Visits.{begun, visited, onNext, searched}
+use Rattle.search.specs.Visits.{begun, visited, stopsAt, onNext, searched}
 use Rattle.search.specs.Laws.Greatest.{some-same}
 use Rattle.search.specs.Laws.Order.{order, order-length, order-right, TellsBounds}
 use Rattle.search.specs.Laws.Pairs.{ReachedPairs, ReachedJoined, pairOf, pairs-told, boundOf, bounds-told, joinedPairOf, joined-pairs-told, pivotBoundOf, pivot-bounds-told}
@@ -57,12 +56,12 @@ module _ {far : ℕ → Far} {bs : List ℕ} {n k : ℕ} {last : Place} {st : Se
     targets-over x = sym (going .leads) ∙ rw (left, x)
 
     module _ (p : Place) (x : nextIn bs last n ≡ At p) where
-      pub stops-there : leb (p .bound) (st .best) ≡ true → searched far bs n n beforeAll begun ≡ st
+      pub stops-there : stopsAt (p .bound) (st .best) ≡ true → searched far bs n n beforeAll begun ≡ st
       unfolding searched
       stops-there h = sym (going .leads) ∙ rw (left, x, h)
 
       -- with the farthest source itself
-      pub going-visit : leb (p .bound) (st .best) ≡ false → Going far bs n (k + 1) p (visited (p .stop) (far (p .stop)) st)
+      pub going-visit : stopsAt (p .bound) (st .best) ≡ false → Going far bs n (k + 1) p (visited (p .stop) (far (p .stop)) st)
       unfolding searched
       going-visit h =
           record {
@@ -75,7 +74,7 @@ module _ {far : ℕ → Far} {bs : List ℕ} {n k : ℕ} {last : Place} {st : Se
           visits-so = rw (left, x, h)
 
       -- with any farthest source of the target
-      pub going-on : {Pair : ℕ → ℕ → ℕ → Type 0} (y : Far) → leb (p .bound) (st .best) ≡ false → IsFar Pair (p .stop) (far (p .stop)) → IsFar Pair (p .stop) y
+      pub going-on : {Pair : ℕ → ℕ → ℕ → Type 0} (y : Far) → stopsAt (p .bound) (st .best) ≡ false → IsFar Pair (p .stop) (far (p .stop)) → IsFar Pair (p .stop) y
           → Going far bs n (k + 1) p (visited (p .stop) y st)
       unfolding searched
       going-on y h f g =
@@ -139,7 +138,7 @@ module _ (far : ℕ → Far) (bs : List ℕ) (n : ℕ) where
     where
       go : (x : Next) → nextIn bs last n ≡ x
           → ((ws : List ℕ) (p : Place) (s : Search) → Rest (BoundIn n bs) (Left n bs p) ws → length ws ≤ k → searched far bs n k p s ≡ run (boundAt bs) far ws s)
-          → onNext x st (λ p. cond (leb (p .bound) (st .best)) st (searched far bs n k p (visited (p .stop) (far (p .stop)) st))) ≡ run (boundAt bs) far vs st
+          → onNext x st (λ p. cond (stopsAt (p .bound) (st .best)) st (searched far bs n k p (visited (p .stop) (far (p .stop)) st))) ≡ run (boundAt bs) far vs st
       go End e rec = let z : vs ≡ [] = none-left vs r (none-is-left bs last n e) in rw z
       go (At p) e rec =
           let h = next-left (one-bound n bs) (p .stop) vs (next-is-head bs last n p e) r in

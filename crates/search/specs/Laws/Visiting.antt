@@ -16,9 +16,9 @@ use Rattle.rules.specs.Laws.Single.{greatest-single, least-single}
 use Rattle.rules.specs.Laws.Skipped.{first-member}
 use Rattle.search.specs.declared.far.Far.{Far}
 use Rattle.search.specs.declared.state.Search.{Search}
-use Rattle.search.specs.Visits.{begun, visited}
+use Rattle.search.specs.Visits.{begun, visited, stopsAt}
 use Rattle.search.specs.Laws.Greatest.{each-cons}
-use Rattle.search.specs.Laws.Order.{order, taken, TellsBounds, TargetBelow, order-target, order-right, taken-right}
+use Rattle.search.specs.Laws.Order.{order, stops-low, taken, TellsBounds, TargetBelow, order-target, order-right, taken-right}
 
 -- the eccentricity of v: none where it is 0, else the greatest distance to v, with its lowest source
 pub record IsFar (Pair : ℕ → ℕ → ℕ → Type 0) (v : ℕ) (x : Far) : Type 0 where
@@ -34,7 +34,7 @@ pub record Right (Pair : ℕ → ℕ → ℕ → Type 0) (Bound : ℕ → ℕ �
 -- the targets of a list visited one after another, until the stop or the end
 unfoldable pub run : (ℕ → Option ℕ) → (ℕ → Far) → List ℕ → Search → Search
 run g far [] st = st
-run g far (v ∷ vs) st = let more = run g far vs (visited v (far v) st) in cond (leb (counted (g v)) (st .best)) st more
+run g far (v ∷ vs) st = let more = run g far vs (visited v (far v) st) in cond (stopsAt (counted (g v)) (st .best)) st more
 
 -- none counts 0
 abbrev pub eccOf : Far → Option ℕ
@@ -81,7 +81,7 @@ visit-counts v x st = go (leb (x .value) (st .best))
 run-visits : (g : ℕ → Option ℕ) (far : ℕ → Far) (vs : List ℕ) (st : Search) → run g far vs st .visits ≡ st .visits + taken g (λ v. eccOf (far v)) vs (st .best)
 unfolding run taken
 run-visits g far [] st = omega arith
-run-visits g far (v ∷ vs) st = go (leb (counted (g v)) (st .best)) (run-visits g far vs (visited v (far v) st))
+run-visits g far (v ∷ vs) st = go (stopsAt (counted (g v)) (st .best)) (run-visits g far vs (visited v (far v) st))
   where
     next : max (st .best) (counted (eccOf (far v))) ≡ visited v (far v) st .best
     next = ap (max (st .best)) (counted-ecc (far v)) ∙ sym (visit-best v (far v) st)
@@ -107,7 +107,7 @@ module _ {Bound : ℕ → ℕ → Type 0} (n : ℕ) (g : ℕ → Option ℕ) (bo
   unfolding run
   came [] st s k = stays refl refl refl (λ q m. absurd (List·Memᴰ·not-nil m))
   came (v ∷ vs) st (sorted-more up s) k =
-      go (leb (counted (g v)) (st .best)) refl (came vs (visited v (far v) st) s (λ q m. k q (List·Memᴰ·tail m)))
+      go (stopsAt (counted (g v)) (st .best)) refl (came vs (visited v (far v) st) s (λ q m. k q (List·Memᴰ·tail m)))
     where
       next : {st′ fin : Search} → Visited v (far v) st st′ → Came far st′ vs fin → Came far st (v ∷ vs) fin
       next (held h) (stays e i j l) = stays e i j (each-cons (λ q. far q .value ≤ st .best) h l)
@@ -117,12 +117,12 @@ module _ {Bound : ℕ → ℕ → Type 0} (n : ℕ) (g : ℕ → Option ℕ) (bo
       next (beats h) (beaten w t u b x f l) =
           beaten w t u b (omega arith) (further (λ (e : far v .value ≡ far w .value). omega arith) f) (each-cons (λ q. far q .value ≤ far w .value) (omega arith) l)
 
-      go : (b : Bool) → leb (counted (g v)) (st .best) ≡ b → Came far (visited v (far v) st) vs (run g far vs (visited v (far v) st))
+      go : (b : Bool) → stopsAt (counted (g v)) (st .best) ≡ b → Came far (visited v (far v) st) vs (run g far vs (visited v (far v) st))
           → Came far st (v ∷ vs) (cond b st (run g far vs (visited v (far v) st)))
       go true e r =
           stays refl refl refl
-          (each-cons (λ q. far q .value ≤ st .best) (omega (arith, leb-true (counted (g v)) (st .best) e, k v (List·Memᴰ·head refl)))
-          (λ q m. omega (arith, leb-true (counted (g v)) (st .best) e, no-later v q (up q m), k q (List·Memᴰ·tail m))))
+          (each-cons (λ q. far q .value ≤ st .best) (omega (arith, stops-low (counted (g v)) (st .best) e, k v (List·Memᴰ·head refl)))
+          (λ q m. omega (arith, stops-low (counted (g v)) (st .best) e, no-later v q (up q m), k q (List·Memᴰ·tail m))))
       go false e r = next (visit-did v (far v) st) r
 
 module _ {Pair : ℕ → ℕ → ℕ → Type 0} {Bound : ℕ → ℕ → Type 0} (n : ℕ) (g : ℕ → Option ℕ) (bounds : TellsBounds n g Bound)

@@ -1,10 +1,11 @@
 -- Each return: the checks before it are not given, and this one is.
-use mathlib.Core.Path.{refl}
+use mathlib.Core.Path.{refl, sym, _∙_}
 use mathlib.Core.Logic.{inl, inr}
 use mathlib.Core.List.{[], _∷_}
 use native.Mathlib.Omega.{arith}
 use Rattle.rules.specs.Table.{check-4, check-5}
 use Rattle.rules.specs.Laws.Checks.{refuses-first, refuses-then, clear-both}
+use Rattle.clock.proofs.Laws.{made-at, made-past}
 use Rattle.figures.specs.Parts.{listChecks}
 use Rattle.figures.proofs.Judging.{passes, told-fine, told-refused}
 use borrow.Author.Needs.{needs}
@@ -35,15 +36,28 @@ returns-3 c =
     let args = c .before .before .before .before .before .before .args in
     let f = told-fine (listChecks (args .list .now) (args .n)) _ (c .before .before .before .before .list-check .ensures) (c .before .before .enum-told .given .1) in refuses-then (listChecks (args .list .now) (args .n)) (check-4 (args .asker) ∷ check-5 (args .a) (args .w) ∷ []) 5 0 f (inr (passes (λ h. omega arith), inl (refl, (refl, inl (c .if2 .taken)))))
 
+of-requires : tie.Need-of-requires
+of-requires c κs = search needs
+
+enum-told-2 : tie.Need-enum-told-2
+enum-told-2 c = search needs
+
+enum-told-3 : tie.Need-enum-told-3
+enum-told-3 c = search needs
+
 returns-4 : tie.Need-returns-4
 returns-4 c =
-    let args = c .before .before .before .before .before .before .before .before .args in
-    let f = told-fine (listChecks (args .list .now) (args .n)) _ (c .before .before .before .before .before .before .list-check .ensures) (c .before .before .before .before .enum-told .given .1) in refuses-then (listChecks (args .list .now) (args .n)) (check-4 (args .asker) ∷ check-5 (args .a) (args .w) ∷ []) 5 0 f (inr (passes (λ h. omega arith), inl (refl, (refl, inr (c .if3 .taken)))))
+    let args = c .before .before .before .before .before .before .before .before .before .args in
+    let f = told-fine (listChecks (args .list .now) (args .n)) _ (c .before .before .before .before .before .before .before .list-check .ensures) (c .before .before .before .before .before .enum-told .given .1) in
+    let in-day = made-at (args .w) _ (sym (c .before .before .of .ensures) ∙ c .enum-told2 .given .1) .0 in
+    clear-both (listChecks (args .list .now) (args .n)) (check-4 (args .asker) ∷ check-5 (args .a) (args .w) ∷ []) f (passes (λ h. omega arith), (passes (λ h. elim h [ inl l ↦ omega arith | inr l ↦ omega (arith, in-day) ]), tt))
 
 returns-5 : tie.Need-returns-5
 returns-5 c =
-    let args = c .before .before .before .before .before .before .before .before .args in
-    let f = told-fine (listChecks (args .list .now) (args .n)) _ (c .before .before .before .before .before .before .list-check .ensures) (c .before .before .before .before .enum-told .given .1) in clear-both (listChecks (args .list .now) (args .n)) (check-4 (args .asker) ∷ check-5 (args .a) (args .w) ∷ []) f (passes (λ h. omega arith), (passes (λ h. elim h [ inl l ↦ omega arith | inr l ↦ omega arith ]), tt))
+    let args = c .before .before .before .before .before .before .before .before .before .args in
+    let f = told-fine (listChecks (args .list .now) (args .n)) _ (c .before .before .before .before .before .before .before .list-check .ensures) (c .before .before .before .before .before .enum-told .given .1) in
+    let past = made-past (args .w) (sym (c .before .before .of .ensures) ∙ c .enum-told3 .given .1) in
+    refuses-then (listChecks (args .list .now) (args .n)) (check-4 (args .asker) ∷ check-5 (args .a) (args .w) ∷ []) 5 0 f (inr (passes (λ h. omega arith), inl (refl, (refl, inr past))))
 
 pub plain-check-spec : {M : Type 1} → statement M
 plain-check-spec =
@@ -55,5 +69,8 @@ plain-check-spec =
     enum-told
     returns-2
     returns-3
+    of-requires
+    enum-told-2
+    enum-told-3
     returns-4
     returns-5)

@@ -1,17 +1,18 @@
--- The loop: the legs past number k are swept.
+-- The loop: the legs past number k are swept, and nothing else is written.
 use Prim.Native.Nat.{_≤_, _<_}
 use native.Mathlib.Omega.{arith}
 use borrow.Author.Needs.{needs}
 use mathlib.Core.Path.{_≡_}
 use lib.ListN.{getD}
-use Rattle.passes.specs.Links.{linkPlaces, legCount}
+use Rattle.passes.specs.Links.{linkPlaces, legCount, Beside}
 use Rattle.passes.specs.Backward.{Swept}
+use Rattle.passes.proofs.Linking.{beside-one, beside-none}
 use Rattle.passes.proofs.Sweeping.{swept-none, next-within, follow-within, sweep-one}
 use Rattle.passes.proofs.backward.sweep.Statement.{statement}
 use Rattle.passes.proofs.backward.sweep.Tie as tie
 
 abbrev Inv-loop : tie.InvT-loop
-Inv-loop legs next follow target best₀ k₀ best k = (k ≤ legCount legs) × Swept legs target k best
+Inv-loop legs next follow target best₀ k₀ best k = (k ≤ legCount legs) × Swept legs target k best × Beside legs k best₀ best
 
 abbrev μ-loop : tie.MeasureT-loop
 μ-loop legs next follow target best₀ k₀ best k = k
@@ -22,7 +23,7 @@ element-write-best c = search needs
 loop-holds : tie.Need-loop-holds Inv-loop μ-loop
 loop-holds c =
     let args = c .before .args in
-    (omega arith, swept-none (args .legs .now) (args .target) (args .best .now) (c .before .pre .1 .1))
+    (omega arith, swept-none (args .legs .now) (args .target) (args .best .now) (c .before .pre .1 .1), beside-none _ _ _)
 
 -- in a turn: the leg's number and links are small
 number-below : (c : tie.In-loop Inv-loop μ-loop) → (1 ≤ c .before .loop .k) × (c .before .loop .k < linkPlaces)
@@ -100,13 +101,13 @@ loop-again c =
     let pre = c .before .before .before .before .before .before .before .before .before .before .pre in
     let loop = c .before .before .before .before .before .before .before .before .loop in
     let leg = c .before .before .before .before .before .before .leg-at in
-    (omega arith, sweep-one (args .legs .now) (pre .0) (args .next .now) (args .follow .now) (pre .1 .0) (args .target) (loop .k) (c .before .before .before .before .before .before .before .loop-test .taken) (loop .inv .0) (loop .best) (leg .result .to) (leg .result .arrive .0) (c .before .before .before .arrival-by .result) (c .least .result) (loop .inv .1) (leg .ensures .to) (leg .ensures .arrive) (c .before .before .before .arrival-by .ensures) (c .least .ensures))
+    (omega arith, sweep-one (args .legs .now) (pre .0) (args .next .now) (args .follow .now) (pre .1 .0) (args .target) (loop .k) (c .before .before .before .before .before .before .before .loop-test .taken) (loop .inv .0) (loop .best) (leg .result .to) (leg .result .arrive .0) (c .before .before .before .arrival-by .result) (c .least .result) (loop .inv .1) (leg .ensures .to) (leg .ensures .arrive) (c .before .before .before .arrival-by .ensures) (c .least .ensures), beside-one _ (loop .k) _ _ _ (c .before .before .before .before .before .before .before .loop-test .taken) (loop .inv .0) (loop .inv .2))
 
 returns : tie.Need-returns Inv-loop μ-loop
 returns c =
     let loop = c .before .loop in
     let z : loop .k ≡ 0 = omega arith in
-    rw z at (loop .inv .1)
+    record { swept = rw z at (loop .inv .1); kept = rw z at (loop .inv .2) }
 
 pub sweep-spec : {M : Type 1} → statement M
 sweep-spec =

@@ -73,7 +73,7 @@ loop-again c =
     let loop = c .before .before .before .loop in
     let on = c .before .before .loop-test .taken in
     let ls = legsIn (args .legs .now) in
-    let reached = swept-head (args .legs .now) (pre .0) (args .target) (c .before .before .before .before .sweep .last .1 .1 .1 .1 .0) (args .head .now) (args .next .now) (args .follow .now) (loop .u) (pre .1 .0) (c .before .before .before .before .sweep .ensures) (omega arith) in
+    let reached = swept-head (args .legs .now) (pre .0) (args .target) (c .before .before .before .before .sweep .last .1 .1 .1 .1 .0) (args .head .now) (args .next .now) (args .follow .now) (loop .u) (pre .1 .0) (c .before .before .before .before .sweep .ensures .swept) (omega arith) in
     (omega arith, (length-set (loop .out) (loop .u) _ ∙ loop .inv .1 .0, fill-one (distancesTo (args .target) ls (args .n) 0) (args .out .now) (loop .u) _ (loop .out) (omega (arith, length-distances (args .target) ls (args .n) 0)) (omega arith) (loop .inv .1 .1) (c .distance-to .ensures ∙ (rw reached (sym (distances-at (args .target) ls (args .n) (loop .u) on))))))
 
 same-length : tie.Need-same-length Inv-loop μ-loop
