@@ -4,3 +4,4 @@ pub mod Unique
 pub mod Exists
 pub mod Steps
 pub mod Bytes
+pub mod Reads

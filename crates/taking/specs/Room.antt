@@ -1,9 +1,10 @@
 -- What the contracts cite: the day in the code, its rooms, and where the run stands by them.
-use Prim.Native.Nat.{ℕ, _+_, _*_, _^_, _≤_, _<_}
+use Prim.Native.Nat.{ℕ, zero, suc, _+_, _*_, _^_, _≤_, _<_}
 use mathlib.Core.Path.{_≡_}
 use mathlib.Core.Bool.{cond}
 use mathlib.Core.List.{List}
 use mathlib.Core.Option.{none, some}
+use lib.IntN.{ℤ, pos, negsuc}
 use lib.ListN.{length, take, drop}
 use Rattle.rules.specs.Day.{mostRows, rowWidth}
 use Rattle.rules.specs.Pivots.{mostPivots}
@@ -140,3 +141,9 @@ pub record EndTaken (day : Day) (line list pivots out : List ℕ) (end : ℕ) (o
   pub prints : Prints (day .line) (knownOf day list pivots) (lastLine (take (day .len) line)) text
   pub puts : Puts 0 text out end out′
   pub fits : end ≤ outRoom
+
+-- what a read led to, by what it answered: it failed, and nothing is printed; the input ended; or so many bytes were read
+abbrev pub ReadTaken : (got : ℤ) (buffer : List ℕ) → Day → (line list pivots out : List ℕ) → Step → (line′ list′ pivots′ out′ : List ℕ) → Type 0
+ReadTaken (negsuc k) buffer day line list pivots out r line′ list′ pivots′ out′ = (r ≡ step.Stop 0) × (out′ ≡ out)
+ReadTaken (pos zero) buffer day line list pivots out r line′ list′ pivots′ out′ = (end : ℕ) × (r ≡ step.Stop end) × EndTaken day line list pivots out end out′
+ReadTaken (pos (suc k)) buffer day line list pivots out r line′ list′ pivots′ out′ = PieceTaken (take (suc k) buffer) 0 day line list pivots out r line′ list′ pivots′ out′

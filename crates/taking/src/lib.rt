@@ -4,8 +4,8 @@ mod lines;
 mod state;
 mod take;
 
-pub use lines::take_bytes;
-pub use lines::take_last;
+pub use lines::take_read;
+pub use state::Buffer;
 pub use state::Day;
 pub use state::LONGEST;
 pub use state::Line;

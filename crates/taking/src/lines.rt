@@ -2,10 +2,12 @@
 ghost use mathlib.Core.Path.{_≡_};
 ghost use mathlib.Core.List.{[], _∷_};
 ghost use lib.ListN.{length};
+ghost use Rattle.libc.specs.Io.{Moved};
 ghost use Rattle.rules.specs.Lent.{scratchPlaces};
 ghost use Rattle.taking.specs.Known.{Zeros};
 ghost use Rattle.taking.specs.Pieces.{longest};
-ghost use Rattle.taking.specs.Room.{InRoom, Ahead, Spare, Roomy, LineTaken, PieceTaken, EndTaken};
+ghost use Rattle.taking.specs.Room.{mostBytes, InRoom, Ahead, Spare, Roomy, LineTaken, PieceTaken, EndTaken, ReadTaken};
+use crate::state::Buffer;
 use crate::state::Day;
 use crate::state::LONGEST;
 use crate::state::Line;
@@ -118,6 +120,7 @@ pub fn take_last(
     requires { ⌜ Roomy (now list) (now pivots) ⌝ }
     requires { ⌜ length (now line) ≡ longest ⌝ }
     ensures { λ r. ⌜ EndTaken day (now (line .entry)) (now (list .entry)) (now (pivots .entry)) (now (out .entry)) r (now (out .exit)) ⌝ }
+    ensures { λ _. ⌜ Zeros scratchPlaces (now (scratch .exit)) ⌝ }
 {
     if day.len == 0 {
         return 0;
@@ -126,4 +129,37 @@ pub fn take_last(
         Step::Go(last) => last.made,
         Step::Stop(made) => made,
     }
+}
+
+// What one read led to: `got` is what it answered, and the bytes that it read stand at the front of `buffer`. Where it
+// failed the run ends, and a line that it cut is not taken.
+pub fn take_read(
+    got: isize,
+    buffer: &Buffer,
+    line: &mut Line,
+    list: &mut List,
+    pivots: &mut Pivots,
+    scratch: &mut Scratch,
+    out: &mut Out,
+    day: Day,
+) -> Step
+    requires { ⌜ Moved mostBytes got ⌝ }
+    requires { ⌜ length (now buffer) ≡ mostBytes ⌝ }
+    requires { ⌜ InRoom day ⌝ }
+    requires { ⌜ Ahead mostBytes day ⌝ }
+    requires { ⌜ Zeros scratchPlaces (now scratch) ⌝ }
+    requires { ⌜ Roomy (now list) (now pivots) ⌝ }
+    requires { ⌜ length (now line) ≡ longest ⌝ }
+    ensures { λ r. ⌜ ReadTaken got (now (buffer .entry)) day (now (line .entry)) (now (list .entry)) (now (pivots .entry)) (now (out .entry)) r (now (line .exit)) (now (list .exit)) (now (pivots .exit)) (now (out .exit)) ⌝ }
+    ensures { λ _. ⌜ Zeros scratchPlaces (now (scratch .exit)) ⌝ }
+{
+    if got < 0 {
+        return Step::Stop(0);
+    }
+    let n = io::count(got, buffer);
+    if n == 0 {
+        return Step::Stop(take_last(line, list, pivots, scratch, out, day));
+    }
+    let whole = &buffer[..];
+    take_bytes(&whole[0..n], line, list, pivots, scratch, out, day)
 }

@@ -20,6 +20,8 @@ pub const LONGEST: usize = 28;
 // A piece has at most 4,096 bytes, and each may end a line that prints one of at most 84 bytes.
 pub const OUT_ROOM: usize = 344064;
 
+pub type Buffer = [u8; 4096];
+
 pub type Line = [u8; LONGEST];
 
 pub type List = [u32; MOST_ROWS * ROW_WIDTH];

@@ -7,7 +7,10 @@ use Rattle.taking.proofs.lines.take_last.Statement.{statement}
 use Rattle.taking.proofs.lines.take_last.Tie as tie
 
 returns : tie.Need-returns
-returns c = let args = c .before .before .args in end-empty (args .day) (args .line .now) (args .list .now) (args .pivots .now) (args .out .now) (c .if1 .taken)
+returns c =
+    let start = c .before .before in
+    let args = start .args in
+    (end-empty (args .day) (args .line .now) (args .list .now) (args .pivots .now) (args .out .now) (c .if1 .taken), start .pre .1 .1 .0)
 
 with-made-requires : tie.Need-with-made-requires
 with-made-requires c κs = search needs
@@ -27,16 +30,20 @@ enum-known-made c = search needs
 returns-2 : tie.Need-returns-2
 returns-2 c =
     let start = c .before .before .before .before .before .before .before .before .before .before .before in
-    let args = start .args in
-    end-line (args .day) _ (args .line .now) (args .list .now) (args .pivots .now) (args .out .now) _ (step.Go (c .before .last .given .0 .0)) _ _ _ (c .before .before .before .before .with-made .ensures .1)
-    (omega (arith, c .before .before .before .before .before .before .before .before .before .if1 .left)) (omega (arith, start .pre .0 .short, start .pre .1 .1 .1 .1)) (c .before .before .before .take-line .ensures .0) (c .before .last .given .1)
+    let args = start .args in (
+      end-line (args .day) _ (args .line .now) (args .list .now) (args .pivots .now) (args .out .now) _ (step.Go (c .before .last .given .0 .0)) _ _ _ (c .before .before .before .before .with-made .ensures .1)
+          (omega (arith, c .before .before .before .before .before .before .before .before .before .if1 .left)) (omega (arith, start .pre .0 .short, start .pre .1 .1 .1 .1)) (c .before .before .before .take-line .ensures .0) (c .before .last .given .1),
+      c .before .before .before .take-line .ensures .1,
+    )
 
 returns-3 : tie.Need-returns-3
 returns-3 c =
     let start = c .before .before .before .before .before .before .before .before .before .before .before in
-    let args = start .args in
-    end-line (args .day) _ (args .line .now) (args .list .now) (args .pivots .now) (args .out .now) _ (step.Stop (c .before .made .given .0 .0)) _ _ _ (c .before .before .before .before .with-made .ensures .1)
-    (omega (arith, c .before .before .before .before .before .before .before .before .before .if1 .left)) (omega (arith, start .pre .0 .short, start .pre .1 .1 .1 .1)) (c .before .before .before .take-line .ensures .0) (c .before .made .given .1)
+    let args = start .args in (
+      end-line (args .day) _ (args .line .now) (args .list .now) (args .pivots .now) (args .out .now) _ (step.Stop (c .before .made .given .0 .0)) _ _ _ (c .before .before .before .before .with-made .ensures .1)
+          (omega (arith, c .before .before .before .before .before .before .before .before .before .if1 .left)) (omega (arith, start .pre .0 .short, start .pre .1 .1 .1 .1)) (c .before .before .before .take-line .ensures .0) (c .before .made .given .1),
+      c .before .before .before .take-line .ensures .1,
+    )
 
 pub take-last-spec : {M : Type 1} → statement M
 take-last-spec =
