@@ -1,8 +1,9 @@
 """The journey figures of the enquiry desk, over the proved library that tools/library makes ready to link.
 
 A day list is a sequence of whole numbers, five a row: from, to, start, travel, owner. `n` is the number of stops, `a` and `w`
-are the interval's readings in seconds. An asker sees the rows whose owner is 0 or the asker, and no answer or refusal depends
-on any other row, but for the refusals 1 and 2, which are about the list as a whole.
+are the interval's readings in seconds. An asker sees the rows whose owner is 0 or the asker. No answer or refusal of a call that
+has an asker depends on any other row, but for the refusals 1 and 2, which are about the list as a whole. The office check has
+no asker and reads every row: what it tells is for the data office only.
 
 Each call gives its answer, or Refused. A number that does not fit 32 bits is a ValueError.
 """
@@ -200,6 +201,6 @@ def pivot_diameter(list, n, asker, a, w, pivots) -> Union[Value, Nothing, Refuse
 
 
 def office_check(list, n) -> Union[Rows, Refused]:
-    """What is wrong with the list, all rows read, for the data office."""
+    """What is wrong with the list, all rows read, whoever owns them: for the data office only."""
     reply = _reply("figures_office_check", *_lent("list", list), _number("n", n))
     return _refused(reply) if reply[0] == 0 else Rows(reply[1])
