@@ -18,7 +18,6 @@
 extern char **environ;
 
 static pthread_mutex_t one_ask = PTHREAD_MUTEX_INITIALIZER;
-static pthread_once_t fork_watched = PTHREAD_ONCE_INIT;
 static int host = -1; /* the pipe to the host; -1 before the first call */
 
 /* The command that starts the host. */
@@ -53,7 +52,8 @@ static void forget(void)
     unlock();
 }
 
-static void watch_fork(void)
+/* Before any call, so that no fork can come between. */
+__attribute__((constructor)) static void watch_fork(void)
 {
     pthread_atfork(lock, unlock, forget);
 }
@@ -120,7 +120,6 @@ static void take(void *bytes, size_t count)
 static void carry(const struct ask *ask, const uint32_t *list, const uint32_t *pivots, uint32_t *out, uint32_t *scratch,
                   uint32_t *reply)
 {
-    pthread_once(&fork_watched, watch_fork);
     lock();
     if (host < 0)
         start();

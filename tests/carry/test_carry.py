@@ -1,0 +1,117 @@
+"""The carried calls where something goes wrong with the host: what the caller's program says, and how it ends. ASKS names the
+program of asks.c, HOST the command that starts the host."""
+
+import functools
+import os
+import pathlib
+import shutil
+import signal
+import subprocess
+import sys
+import tempfile
+import time
+import unittest
+import uuid
+
+ASKS = os.environ["ASKS"]
+HOST = os.environ["HOST"]
+PYTHON = pathlib.Path(__file__).resolve().parent.parent.parent / "bindings" / "python" / "example.py"
+SECONDS = 60
+
+
+class Caller:
+    """A program that asks, and the hosts that it started: they have its mark among their settings."""
+
+    def __init__(self, *words, host=HOST, **more):
+        self.mark = f"ASKED_FOR={uuid.uuid4()}"
+        name, value = self.mark.split("=")
+        settings = {**os.environ, name: value, "FIGURES_HOST": host}
+        pipe = subprocess.PIPE
+        self.process = subprocess.Popen(words, env=settings, text=True, stdin=pipe, stdout=pipe, stderr=pipe, **more)
+
+    def hosts(self):
+        return [pid for pid in map(int, filter(str.isdigit, os.listdir("/proc"))) if self.started(pid)]
+
+    def started(self, pid):
+        try:
+            settings = pathlib.Path(f"/proc/{pid}/environ").read_bytes()
+        except OSError:
+            return False
+        return pid != self.process.pid and self.mark.encode() in settings.split(b"\0")
+
+    def no_host_is_left(self):
+        until = time.monotonic() + SECONDS
+        while self.hosts() and time.monotonic() < until:
+            time.sleep(0.01)
+        return not self.hosts()
+
+    def end(self):
+        """Its status, and what it said on standard error."""
+        try:
+            _, said = self.process.communicate("\n", timeout=SECONDS)
+        except subprocess.TimeoutExpired:
+            self.process.kill()
+            _, said = self.process.communicate()
+            said += f"it did not end within {SECONDS} seconds"
+        return self.process.returncode, said
+
+
+class Hosts(unittest.TestCase):
+    def stand_in(self, text):
+        folder = tempfile.mkdtemp()
+        self.addCleanup(shutil.rmtree, folder)
+        script = pathlib.Path(folder, "host")
+        script.write_text(f"#!/usr/bin/env bash\n{text}\n", encoding="utf-8")
+        script.chmod(0o755)
+        return str(script)
+
+    def ends_with(self, caller, text):
+        self.assertEqual(caller.end(), (-signal.SIGABRT, f"figures: the host {text}\n"))
+        self.assertTrue(caller.no_host_is_left())
+
+    def test_one_host_answers_and_ends_with_its_caller(self):
+        caller = Caller(ASKS, "twice")
+        self.assertEqual(caller.process.stdout.readline(), "asked\n")
+        self.assertEqual(len(caller.hosts()), 1)
+        self.assertEqual(caller.end(), (0, ""))
+        self.assertTrue(caller.no_host_is_left())
+
+    def test_threads_and_children_ask_at_once(self):
+        caller = Caller(ASKS, "family")
+        self.assertEqual(caller.end(), (0, ""))
+        self.assertTrue(caller.no_host_is_left())
+
+    def test_a_caller_that_ignores_its_children(self):
+        ignore = functools.partial(signal.signal, signal.SIGCHLD, signal.SIG_IGN)
+        self.assertEqual(Caller(ASKS, "twice", preexec_fn=ignore).end(), (0, ""))
+
+    def test_a_host_that_has_died(self):
+        caller = Caller(ASKS, "twice")
+        self.assertEqual(caller.process.stdout.readline(), "asked\n")
+        for pid in caller.hosts():
+            os.kill(pid, signal.SIGKILL)
+        self.assertTrue(caller.no_host_is_left())
+        self.ends_with(caller, f"ended: {HOST}")
+
+    def test_a_host_that_dies_in_an_ask(self):
+        host = self.stand_in("head -c 56 <&0 >/dev/null &")
+        self.ends_with(Caller(ASKS, "twice", host=host), f"ended: {host}")
+
+    def test_a_broken_pipe(self):
+        host = self.stand_in("exit 0")
+        self.ends_with(Caller(ASKS, "twice", host=host), f"ended: {host}")
+
+    def test_a_host_that_fails_at_once(self):
+        host = self.stand_in("exit 3")
+        self.ends_with(Caller(ASKS, "twice", host=host), f"could not be started: {host}")
+
+    def test_no_host(self):
+        self.ends_with(Caller(ASKS, "twice", host="/missing"), "could not be started: /missing")
+
+    def test_the_python_wrapper_is_carried_too(self):
+        caller = Caller(sys.executable, "-B", str(PYTHON), host="/missing")
+        self.ends_with(caller, "could not be started: /missing")
+
+
+if __name__ == "__main__":
+    unittest.main()
