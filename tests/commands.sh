@@ -30,8 +30,19 @@ exec bash "$CI"
 EOT
 chmod +x "$made/rt/rt"
 path=$made/rt:$made/bare
+export CI=$made/ci
 expect "library without a C compiler" 1 "library: there is no C compiler here: install one, with the command cc" \
     env PATH="$path" tools/library
+
+# where its check fails, run does not start a program that was built before
+mkdir -p "$made/old/target/bin" "$made/old/tools"
+cp run "$made/old"
+cp tools/start "$made/old/tools"
+printf '#!/usr/bin/env bash\necho old\n' >"$made/old/target/bin/figures_program"
+chmod +x "$made/old/target/bin/figures_program"
+echo 'echo not proved; exit 1' >"$CI"
+expect "run where the check fails" 1 "not proved" env PATH="$path" "$made/old/run"
+[ ! -s "$made/printed" ] || fail "run where the check fails prints $(cat "$made/printed")"
 
 # a limit ends what does not end by itself, and the processes that it started
 expect "a limit that is kept" 3 "" tools/limit 60 "the step" bash -c 'exit 3'
@@ -40,7 +51,6 @@ expect "a limit that is not kept" 124 "the step did not end within 1 seconds" \
 
 # tried WHAT STATUS TEXT LAST CI SCRIPT: in a copy, ./test ends so where rt ci and its one script do this
 tree=$made/tree
-export CI=$made/ci
 mkdir -p "$tree/tests" "$tree/tools"
 cp tools/limit "$tree/tools"
 sed 's/limit [0-9]*/limit 2/' test >"$tree/test"

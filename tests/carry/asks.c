@@ -1,10 +1,14 @@
-/* Asks over one row: `twice`, with a line of standard input between, or as a `family`, from threads and children at once. */
+/* Asks over one row: `twice`, with a line of standard input between; `interrupted`, by a signal again and again; or as a
+ * `family`, from threads and children at once. */
 #include "figures.h"
 
 #include <errno.h>
+#include <fcntl.h>
 #include <pthread.h>
+#include <signal.h>
 #include <stdio.h>
 #include <string.h>
+#include <sys/time.h>
 #include <sys/wait.h>
 #include <unistd.h>
 
@@ -66,19 +70,54 @@ static int family(void)
     return wrong;
 }
 
+static void pass_on(int number)
+{
+    (void)number;
+}
+
+static int interrupted(void)
+{
+    struct sigaction action = {.sa_handler = pass_on}; /* without SA_RESTART: a call that is interrupted ends with EINTR */
+    struct itimerval often = {{0, 50}, {0, 50}};
+    uint32_t a = 7;
+    sigaction(SIGALRM, &action, NULL);
+    setitimer(ITIMER_REAL, &often, NULL);
+    return ask_often(&a) || ask_often(&a) || ask_often(&a);
+}
+
+/* How many open files a program that is started from here would have. */
+static int files_to_pass_on(void)
+{
+    int count = 0;
+    for (int file = 0; file < 100; file++) {
+        int flags = fcntl(file, F_GETFD);
+        count += flags >= 0 && !(flags & FD_CLOEXEC);
+    }
+    return count;
+}
+
+static int has_child(void)
+{
+    return waitpid(-1, NULL, WNOHANG) != -1 || errno != ECHILD;
+}
+
 static int twice(void)
 {
+    int files = files_to_pass_on();
     if (!is_right(0))
         return 1;
-    if (waitpid(-1, NULL, WNOHANG) != -1 || errno != ECHILD)
-        return 2; /* the host is no child of this program */
+    if (has_child() || files_to_pass_on() != files)
+        return 2;
     puts("asked");
     fflush(stdout);
     getchar();
-    return is_right(1) ? 0 : 1;
+    return !is_right(1);
 }
 
 int main(int count, char **words)
 {
-    return count == 2 && strcmp(words[1], "family") == 0 ? !is_right(0) || family() : twice();
+    const char *how = count == 2 ? words[1] : "";
+    if (strcmp(how, "family") == 0)
+        return !is_right(0) || family();
+    return strcmp(how, "interrupted") == 0 ? interrupted() : twice();
 }

@@ -72,9 +72,22 @@ class Hosts(unittest.TestCase):
     def test_one_host_answers_and_ends_with_its_caller(self):
         caller = Caller(ASKS, "twice")
         self.assertEqual(caller.process.stdout.readline(), "asked\n")
-        self.assertEqual(len(caller.hosts()), 1)
+        (host,) = caller.hosts()
+        self.assertNotEqual(os.getsid(host), os.getsid(caller.process.pid))
         self.assertEqual(caller.end(), (0, ""))
         self.assertTrue(caller.no_host_is_left())
+
+    def test_a_host_has_none_of_its_caller_s_files(self):
+        with tempfile.NamedTemporaryFile() as file:
+            caller = Caller(ASKS, "twice", pass_fds=[file.fileno()])
+            self.assertEqual(caller.process.stdout.readline(), "asked\n")
+            (host,) = caller.hosts()
+            files = pathlib.Path(f"/proc/{host}/fd").iterdir()
+            self.assertNotIn(file.name, [os.readlink(link) for link in files])
+            self.assertEqual(caller.end(), (0, ""))
+
+    def test_a_caller_that_is_interrupted(self):
+        self.assertEqual(Caller(ASKS, "interrupted").end(), (0, ""))
 
     def test_threads_and_children_ask_at_once(self):
         caller = Caller(ASKS, "family")
