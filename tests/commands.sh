@@ -8,7 +8,7 @@
 expect() {
     local what=$1 status=$2 text=$3 said got
     shift 3
-    said=$(timeout 60 "$@" 2>&1 >"$made/printed" </dev/null)
+    said=$(tools/limit 60 "it" "$@" 2>&1 >"$made/printed" </dev/null)
     got=$?
     if [ "$got" -ne "$status" ] || [ "$said" != "$text" ]; then
         fail "$what: status $got, said: $said"

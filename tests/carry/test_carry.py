@@ -27,7 +27,8 @@ class Caller:
         name, value = self.mark.split("=")
         settings = {**os.environ, name: value, "FIGURES_HOST": host}
         pipe = subprocess.PIPE
-        self.process = subprocess.Popen(words, env=settings, text=True, stdin=pipe, stdout=pipe, stderr=pipe, **more)
+        more.update(stdin=pipe, stdout=pipe, stderr=pipe, start_new_session=True)
+        self.process = subprocess.Popen(words, env=settings, text=True, **more)
 
     def hosts(self):
         return [pid for pid in map(int, filter(str.isdigit, os.listdir("/proc"))) if self.started(pid)]
@@ -50,7 +51,7 @@ class Caller:
         try:
             _, said = self.process.communicate("\n", timeout=SECONDS)
         except subprocess.TimeoutExpired:
-            self.process.kill()
+            os.killpg(self.process.pid, signal.SIGKILL)
             _, said = self.process.communicate()
             said += f"it did not end within {SECONDS} seconds"
         return self.process.returncode, said

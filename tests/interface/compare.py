@@ -225,9 +225,10 @@ def changes(texts):
 def main():
     files = {file for places in CONSTANTS.values() for file, _ in places} | {HEADER, ANSWERS, CARRY, TABLE, *CALLS}
     texts = {file: (ROOT / file).read_text(encoding="utf-8") for file in files}
-    found = list(findings(texts))
     tried = list(changes(texts))
-    found += [f"nothing tells a change of {what}" for what, after in tried if next(findings(after), None) is None]
+    found = list(findings(texts))
+    if not found:
+        found = [f"nothing tells a change of {what}" for what, after in tried if next(findings(after), None) is None]
     for finding in found:
         print(f"interface: {finding}", file=sys.stderr)
     if not found:
