@@ -3,6 +3,7 @@
 #include "figures.h"
 
 #include <errno.h>
+#include <fcntl.h>
 #include <pthread.h>
 #include <spawn.h>
 #include <stdio.h>
@@ -84,7 +85,11 @@ static void start(void)
     posix_spawn_file_actions_destroy(&files);
     close(ends[1]);
     wait_until_apart(started);
-    host = ends[0];
+    /* never 0, 1 or 2, also where the caller has closed these: it might read or print there */
+    host = fcntl(ends[0], F_DUPFD_CLOEXEC, STDERR_FILENO + 1);
+    close(ends[0]);
+    if (host < 0)
+        give_up("could not be started");
 }
 
 /* MSG_NOSIGNAL: where the host has ended, the caller's program gets no SIGPIPE. */

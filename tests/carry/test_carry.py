@@ -87,6 +87,10 @@ class Hosts(unittest.TestCase):
             self.assertNotIn(file.name, [os.readlink(link) for link in files])
             self.assertEqual(caller.end(), (0, ""))
 
+    def test_a_caller_without_standard_files(self):
+        caller = Caller(ASKS, "twice", preexec_fn=functools.partial(os.closerange, 0, 3))
+        self.assertEqual(caller.end(), (0, ""))
+
     def test_a_caller_that_is_interrupted(self):
         self.assertEqual(Caller(ASKS, "interrupted").end(), (0, ""))
 
