@@ -1,6 +1,7 @@
 """The carried calls where something goes wrong with the host: what the caller's program says, and how it ends. ASKS names the
 program of asks.c, HOST the command that starts the host."""
 
+import contextlib
 import functools
 import os
 import pathlib
@@ -51,10 +52,18 @@ class Caller:
         try:
             _, said = self.process.communicate("\n", timeout=SECONDS)
         except subprocess.TimeoutExpired:
-            os.killpg(self.process.pid, signal.SIGKILL)
-            _, said = self.process.communicate()
-            said += f"it did not end within {SECONDS} seconds"
+            self.kill()
+            return None, f"it did not end within {SECONDS} seconds"
         return self.process.returncode, said
+
+    def kill(self):
+        """Whatever is left of it and of its hosts."""
+        if self.process.returncode is None:
+            os.killpg(self.process.pid, signal.SIGKILL)
+        for pid in self.hosts():
+            with contextlib.suppress(ProcessLookupError):
+                os.kill(pid, signal.SIGKILL)
+        self.process.communicate()
 
 
 class Hosts(unittest.TestCase):
@@ -66,12 +75,17 @@ class Hosts(unittest.TestCase):
         script.chmod(0o755)
         return str(script)
 
+    def caller(self, *words, **more):
+        caller = Caller(*words, **more)
+        self.addCleanup(caller.kill)
+        return caller
+
     def ends_with(self, caller, text):
         self.assertEqual(caller.end(), (-signal.SIGABRT, f"figures: the host {text}\n"))
         self.assertTrue(caller.no_host_is_left())
 
     def test_one_host_answers_and_ends_with_its_caller(self):
-        caller = Caller(ASKS, "twice")
+        caller = self.caller(ASKS, "twice")
         self.assertEqual(caller.process.stdout.readline(), "asked\n")
         (host,) = caller.hosts()
         self.assertNotEqual(os.getsid(host), os.getsid(caller.process.pid))
@@ -80,7 +94,7 @@ class Hosts(unittest.TestCase):
 
     def test_a_host_has_none_of_its_caller_s_files(self):
         with tempfile.NamedTemporaryFile() as file:
-            caller = Caller(ASKS, "twice", pass_fds=[file.fileno()])
+            caller = self.caller(ASKS, "twice", pass_fds=[file.fileno()])
             self.assertEqual(caller.process.stdout.readline(), "asked\n")
             (host,) = caller.hosts()
             files = pathlib.Path(f"/proc/{host}/fd").iterdir()
@@ -88,23 +102,23 @@ class Hosts(unittest.TestCase):
             self.assertEqual(caller.end(), (0, ""))
 
     def test_a_caller_without_standard_files(self):
-        caller = Caller(ASKS, "twice", preexec_fn=functools.partial(os.closerange, 0, 3))
+        caller = self.caller(ASKS, "twice", preexec_fn=functools.partial(os.closerange, 0, 3))
         self.assertEqual(caller.end(), (0, ""))
 
     def test_a_caller_that_is_interrupted(self):
-        self.assertEqual(Caller(ASKS, "interrupted").end(), (0, ""))
+        self.assertEqual(self.caller(ASKS, "interrupted").end(), (0, ""))
 
     def test_threads_and_children_ask_at_once(self):
-        caller = Caller(ASKS, "family")
+        caller = self.caller(ASKS, "family")
         self.assertEqual(caller.end(), (0, ""))
         self.assertTrue(caller.no_host_is_left())
 
     def test_a_caller_that_ignores_its_children(self):
         ignore = functools.partial(signal.signal, signal.SIGCHLD, signal.SIG_IGN)
-        self.assertEqual(Caller(ASKS, "twice", preexec_fn=ignore).end(), (0, ""))
+        self.assertEqual(self.caller(ASKS, "twice", preexec_fn=ignore).end(), (0, ""))
 
     def test_a_host_that_has_died(self):
-        caller = Caller(ASKS, "twice")
+        caller = self.caller(ASKS, "twice")
         self.assertEqual(caller.process.stdout.readline(), "asked\n")
         for pid in caller.hosts():
             os.kill(pid, signal.SIGKILL)
@@ -113,21 +127,21 @@ class Hosts(unittest.TestCase):
 
     def test_a_host_that_dies_in_an_ask(self):
         host = self.stand_in("head -c 56 <&0 >/dev/null &")
-        self.ends_with(Caller(ASKS, "twice", host=host), f"ended: {host}")
+        self.ends_with(self.caller(ASKS, "twice", host=host), f"ended: {host}")
 
     def test_a_broken_pipe(self):
         host = self.stand_in("exit 0")
-        self.ends_with(Caller(ASKS, "twice", host=host), f"ended: {host}")
+        self.ends_with(self.caller(ASKS, "twice", host=host), f"ended: {host}")
 
     def test_a_host_that_fails_at_once(self):
         host = self.stand_in("exit 3")
-        self.ends_with(Caller(ASKS, "twice", host=host), f"could not be started: {host}")
+        self.ends_with(self.caller(ASKS, "twice", host=host), f"could not be started: {host}")
 
     def test_no_host(self):
-        self.ends_with(Caller(ASKS, "twice", host="/missing"), "could not be started: /missing")
+        self.ends_with(self.caller(ASKS, "twice", host="/missing"), "could not be started: /missing")
 
     def test_the_python_wrapper_is_carried_too(self):
-        caller = Caller(sys.executable, "-B", str(PYTHON), host="/missing")
+        caller = self.caller(sys.executable, "-B", str(PYTHON), host="/missing")
         self.ends_with(caller, "could not be started: /missing")
 
 
