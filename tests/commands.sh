@@ -17,7 +17,7 @@ expect() {
 
 # the usual tools without rt, then with a command in its place but without a C compiler
 mkdir "$made/bare" "$made/rt"
-for tool in bash cat dirname env mktemp rm sed sleep tail tee timeout; do
+for tool in bash cat dirname env mktemp rm sed sleep tail tee timeout uname; do
     ln -s "$(command -v "$tool")" "$made/bare/$tool"
 done
 missing="the Rattle toolchain is not installed here: put its command rt on the PATH"

@@ -38,6 +38,11 @@ quiet 60 "the Python tests" python3 -X dev -B -W error bindings/python/test_figu
 prints 60 "the Python program" bindings/python/example.out python3 -X dev -B -W error bindings/python/example.py
 echo "the Python program prints what it must over the shared object, and its tests pass"
 
+# without FIGURES_LIBRARY both find the folder of tools/library
+apart=(env -u FIGURES_LIBRARY CARGO_TARGET_DIR="$made/cargo")
+prints 300 "the Rust program by itself" bindings/rust/examples/day_d.out "${apart[@]}" "${rust[@]}" run --example day_d
+prints 60 "the Python program by itself" bindings/python/example.out "${apart[@]}" python3 -B bindings/python/example.py
+
 # without WHAT FILE COMMAND..: where there is no library the command fails, and names the file that is missing
 without() {
     local what=$1 text="$2 is missing: run tools/library, or give its folder as FIGURES_LIBRARY"
@@ -47,4 +52,4 @@ without() {
 }
 without "the Python program" /missing/libfigures_c.so python3 -B bindings/python/example.py
 without "cargo build" /missing/libfigures_c.a env CARGO_TARGET_DIR="$made/cargo" "${rust[@]}" build
-echo "without a library both say which file is missing"
+echo "the two find the library by themselves, and where there is none they say which file is missing"

@@ -132,6 +132,12 @@ class Refusals(unittest.TestCase):
         self.assertEqual(figures.office_check(DAY_D, 4), Refused(6, 3))
 
 
+class Library(unittest.TestCase):
+    def test_a_library_that_is_named(self):
+        with self.assertRaisesRegex(FileNotFoundError, "^/missing.so is missing: run tools/library, "):
+            figures.load("/missing.so")
+
+
 class Numbers(unittest.TestCase):
     def test_limits_are_the_library_s(self):
         self.assertEqual(figures.table(DAY_D, 4294967295, 0, 100, 300), Refused(3, 0))
