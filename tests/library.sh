@@ -93,4 +93,17 @@ echo '// a line at the start' >>"$file"
 echo 'echo "// a line meanwhile" >>crates/figures/src/lib.rt' >"$CALLS.then"
 made 1 0 "a source that changes meanwhile"
 changed "a source that changed meanwhile"
+
+# a run that is interrupted while it links leaves the library as it was
+cp "$copy/target/link/libfigures_c.so" "$made/before.so"
+cat >"$made/bin/cc" <<'EOT'
+#!/usr/bin/env bash
+echo half >"${!#}"
+kill -9 0
+EOT
+chmod +x "$made/bin/cc"
+made 0 137 "a run that is interrupted while it links"
+cmp -s "$made/before.so" "$copy/target/link/libfigures_c.so" || fail "a run that is interrupted leaves half a library"
+rm "$made/bin/cc"
+made 0 0 "the run after that"
 echo "tools/library makes the archive anew after every change, and only then"
