@@ -36,9 +36,9 @@ def waiting(file):
     return struct.unpack("i", fcntl.ioctl(file, termios.FIONREAD, b"\0" * 4))[0]
 
 
-def wait_until_read(file):
+def wait_until_read(file, process):
     until = time.monotonic() + SECONDS
-    while waiting(file) > 0:
+    while waiting(file) > 0 and process.poll() is None:
         if time.monotonic() > until:
             raise TimeoutError(f"the program did not read within {SECONDS} seconds")
         time.sleep(0)
@@ -75,7 +75,7 @@ class Program:
     def read(self, piece):
         """The piece is read alone: it is written to an empty pipe, which is empty again before the next."""
         os.write(self.input, piece)
-        wait_until_read(self.input)
+        wait_until_read(self.input, self.process)
         self.reads += 1
 
     def line(self):
@@ -124,7 +124,7 @@ class Resets(unittest.TestCase):
             while waiting(end) < len(given):
                 time.sleep(0)
             process = subprocess.Popen(command, stdin=end, stdout=subprocess.PIPE, stderr=subprocess.DEVNULL)
-            wait_until_read(end)
+            wait_until_read(end, process)
             peer.setsockopt(socket.SOL_SOCKET, socket.SO_LINGER, struct.pack("ii", 1, 0))
             peer.close()
             text, _ = process.communicate(timeout=SECONDS)
