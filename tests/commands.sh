@@ -26,11 +26,11 @@ expect "run without rt" 1 "run: $missing" env PATH="$made/bare" ./run
 expect "library without rt" 1 "library: $missing" env PATH="$made/bare" tools/library
 cat >"$made/rt/rt" <<'EOT'
 #!/usr/bin/env bash
-exec bash "$CI"
+exec bash "$STAND_IN"
 EOT
 chmod +x "$made/rt/rt"
 path=$made/rt:$made/bare
-export CI=$made/ci
+export STAND_IN=$made/ci
 expect "library without a C compiler" 1 "library: there is no C compiler here: install one, with the command cc" \
     env PATH="$path" tools/library
 
@@ -40,7 +40,7 @@ cp run "$made/old"
 cp tools/start "$made/old/tools"
 printf '#!/usr/bin/env bash\necho old\n' >"$made/old/target/bin/figures_program"
 chmod +x "$made/old/target/bin/figures_program"
-echo 'echo not proved; exit 1' >"$CI"
+echo 'echo not proved; exit 1' >"$STAND_IN"
 expect "run where the check fails" 1 "not proved" env PATH="$path" "$made/old/run"
 [ ! -s "$made/printed" ] || fail "run where the check fails prints $(cat "$made/printed")"
 
@@ -49,14 +49,14 @@ expect "a limit that is kept" 3 "" tools/limit 60 "the step" bash -c 'exit 3'
 expect "a limit that is not kept" 124 "the step did not end within 1 seconds" \
     tools/limit 1 "the step" bash -c 'sleep 60 | cat; true'
 
-# tried WHAT STATUS TEXT LAST CI SCRIPT: in a copy, ./test ends so where rt ci and its one script do this
+# tried WHAT STATUS TEXT LAST RT SCRIPT: in a copy, ./test ends so where rt ci and its one script do this
 tree=$made/tree
 mkdir -p "$tree/tests" "$tree/tools"
 cp tools/limit "$tree/tools"
 sed 's/limit [0-9]*/limit 2/' test >"$tree/test"
 tried() {
     local what="test with $1" status=$2 text=$3 last=$4
-    echo "$5" >"$CI"
+    echo "$5" >"$STAND_IN"
     echo "$6" >"$tree/tests/one.sh"
     expect "$what" "$status" "$text" env PATH="$path" bash "$tree/test"
     [ "$(tail -n 1 "$made/printed")" = "$last" ] || fail "$what: the last line is $(tail -n 1 "$made/printed")"

@@ -34,7 +34,7 @@ prints 300 "the Rust program" bindings/rust/examples/day_d.out "${rust[@]}" run 
 echo "the Rust program prints what it must, and cargo test passes"
 
 # with Python's own checks of memory
-quiet 60 "the Python tests" python3 -X dev -B -W error bindings/python/test_figures.py
+quiet 120 "the Python tests" python3 -X dev -B -W error bindings/python/test_figures.py
 prints 60 "the Python program" bindings/python/example.out python3 -X dev -B -W error bindings/python/example.py
 echo "the Python program prints what it must over the shared object, and its tests pass"
 
