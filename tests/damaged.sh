@@ -10,12 +10,24 @@ if [ ! -x "$bin" ]; then
     exit 1
 fi
 
-program() { timeout 60 tools/start "$bin"; }
+if ! command -v python3 >/dev/null 2>&1; then
+    echo "damaged: the command python3 is missing here: install Python 3.8 or newer" >&2
+    exit 1
+fi
+
+said=$(mktemp) || exit 1
+trap 'rm -f "$said"' EXIT
+seconds=60
+program() { timeout "$seconds" tools/start "$bin"; }
 
 failed=0
 
 # same WHAT WANTED GOT STATUS
 same() {
+    if [ "$4" -eq 124 ]; then
+        echo "damaged: $1: the program did not end within $seconds seconds" >&2
+        exit 1
+    fi
     if [ "$2" != "$3" ] || [ "$4" -ne 0 ]; then
         printf '%s: status %s\n--- wanted\n%s\n--- got\n%s\n' "$1" "$4" "$2" "$3" >&2
         failed=1
@@ -68,6 +80,11 @@ printf '01000\3005\n' | prints 'a byte above 127' 'frame 1'
 printf '%s\n' '01 0005' | prints 'a space between' 'frame 1'
 printf '%s\n' ' 010005' | prints 'a space before' 'frame 1'
 printf '%s\n' '010005 ' | prints 'a space after' 'frame 1'
+printf '%s\t%s\n' $stops $ask | prints 'a tab between two frames' 'frame 1'
+printf '%s\0%s\n' $stops $ask | prints 'a zero byte between two frames' 'frame 1'
+printf '%s\n\t%s\n' $stops $ask | prints 'a tab at the start of a line' 'frame 2'
+printf '%s\n\0%s\n' $stops $ask | prints 'a zero byte at the start of a line' 'frame 2'
+printf '%s\n%s\0\n%s\n' $stops $ask $ask | prints 'a zero byte at the end of a line' 'frame 2'
 printf '%s\r\n' $stops $ask | prints 'carriage returns' 'frame 1'
 
 printf '\n' | prints 'an empty line alone' 'frame 1'
@@ -86,6 +103,9 @@ printf '%s\n' $stops ${ask}0 | prints 'an ask of one digit more' 'frame 2'
 printf '%s\n%s' $stops $ask | prints 'a last line without its newline' 'none 0'
 printf '%s\n%s' $stops 04 | prints 'a last line cut short' 'frame 2'
 printf '%s' ${row}0 | prints 'a long last line' 'frame 1'
+printf 0 | prints 'a last line of one digit without its newline' 'frame 1'
+printf '%s\n%s\n0' $stops $ask | prints 'the same after right lines' $'none 0\nframe 3'
+printf '%s\n\t' $stops | prints 'a last line of a tab without its newline' 'frame 2'
 
 { printf '%s\n' $stops; times 2048 $row; printf '%s\n' $ask; } | prints '2,048 rows' 'none 0'
 { printf '%s\n' $stops; times 2049 $row; printf '%s\n' $ask; } | prints '2,049 rows' 'frame 2050'
@@ -122,5 +142,8 @@ while IFS= read -r line; do
     sleep 0.02
     printf '\n'
 done <$example | alike 'the example in small pieces'
+
+tools/limit 300 "damaged: the inputs that a shell cannot make" python3 -B -W error tests/damaged/test_input.py 2>"$said" ||
+    { cat "$said" >&2 && failed=1; }
 
 exit $failed

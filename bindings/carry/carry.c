@@ -3,6 +3,7 @@
 #include "figures.h"
 
 #include <errno.h>
+#include <fcntl.h>
 #include <pthread.h>
 #include <spawn.h>
 #include <stdio.h>
@@ -18,7 +19,6 @@
 extern char **environ;
 
 static pthread_mutex_t one_ask = PTHREAD_MUTEX_INITIALIZER;
-static pthread_once_t fork_watched = PTHREAD_ONCE_INIT;
 static int host = -1; /* the pipe to the host; -1 before the first call */
 
 /* The command that starts the host. */
@@ -53,7 +53,8 @@ static void forget(void)
     unlock();
 }
 
-static void watch_fork(void)
+/* Before any call, so that no fork can come between. */
+__attribute__((constructor)) static void watch_fork(void)
 {
     pthread_atfork(lock, unlock, forget);
 }
@@ -84,7 +85,11 @@ static void start(void)
     posix_spawn_file_actions_destroy(&files);
     close(ends[1]);
     wait_until_apart(started);
-    host = ends[0];
+    /* never 0, 1 or 2, also where the caller has closed these: it might read or print there */
+    host = fcntl(ends[0], F_DUPFD_CLOEXEC, STDERR_FILENO + 1);
+    close(ends[0]);
+    if (host < 0)
+        give_up("could not be started");
 }
 
 /* MSG_NOSIGNAL: where the host has ended, the caller's program gets no SIGPIPE. */
@@ -120,7 +125,6 @@ static void take(void *bytes, size_t count)
 static void carry(const struct ask *ask, const uint32_t *list, const uint32_t *pivots, uint32_t *out, uint32_t *scratch,
                   uint32_t *reply)
 {
-    pthread_once(&fork_watched, watch_fork);
     lock();
     if (host < 0)
         start();

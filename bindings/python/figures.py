@@ -1,8 +1,9 @@
 """The journey figures of the enquiry desk, over the proved library that tools/library makes ready to link.
 
 A day list is a sequence of whole numbers, five a row: from, to, start, travel, owner. `n` is the number of stops, `a` and `w`
-are the interval's readings in seconds. An asker sees the rows whose owner is 0 or the asker, and no answer or refusal depends
-on any other row, but for the refusals 1 and 2, which are about the list as a whole.
+are the interval's readings in seconds. An asker sees the rows whose owner is 0 or the asker. Where a call has an asker, no
+answer or refusal depends on any other row, but for the refusals 1 and 2, which are about the list as a whole. The office check
+has no asker and reads every row: what it tells is for the data office only.
 
 Each call gives its answer, or Refused. A number that does not fit 32 bits is a ValueError.
 """
@@ -22,6 +23,12 @@ _SCRATCH = 16384
 _UNREACHED = 4294967295
 _MOST = 4294967295
 
+# a reply: how many numbers, and what the first says
+_REPLY = 5
+_REFUSED = 0
+_ANSWER = 1
+_NONE = 2
+
 _REASONS = {
     1: "the list's length is not a multiple of 5",
     2: "more than 2,048 rows",
@@ -32,7 +39,7 @@ _REASONS = {
     7: "the named stop is not below n",
     8: "the pivot list has odd length, or more than 16 pivots",
     9: "a pivot's stop is not below n, or its reading lies outside a to w",
-    10: "a lent list is too short",
+    10: "out shorter than n (table: n × n), or scratch shorter than 16,384",
     11: "an owner above 255",
     12: "a joined pair without a route",
 }
@@ -120,7 +127,7 @@ def _ask(list, n, asker, a, w):
 def _reply(call, *arguments):
     if _library is None:
         load()
-    reply = (ctypes.c_uint32 * 5)()
+    reply = (ctypes.c_uint32 * _REPLY)()
     function = getattr(_library, call)
     function.restype = None
     function(*arguments, reply)
@@ -141,15 +148,15 @@ def _distances(places):
 
 
 def _filled(reply, distances):
-    return _refused(reply) if reply[0] == 0 else Done(distances)
+    return _refused(reply) if reply[0] == _REFUSED else Done(distances)
 
 
 def _eccentricity(reply):
-    return {0: _refused(reply), 1: Value(reply[1]), 2: Nothing()}[reply[0]]
+    return {_REFUSED: _refused(reply), _ANSWER: Value(reply[1]), _NONE: Nothing()}[reply[0]]
 
 
 def _answer(reply):
-    return {0: _refused(reply), 1: Value(*reply[1:]), 2: Nothing(reply[4])}[reply[0]]
+    return {_REFUSED: _refused(reply), _ANSWER: Value(*reply[1:]), _NONE: Nothing(reply[4])}[reply[0]]
 
 
 def distances_from(list, n, asker, a, w, source) -> Union[Done, Refused]:
@@ -200,6 +207,6 @@ def pivot_diameter(list, n, asker, a, w, pivots) -> Union[Value, Nothing, Refuse
 
 
 def office_check(list, n) -> Union[Rows, Refused]:
-    """What is wrong with the list, all rows read, for the data office."""
+    """What is wrong with the list, all rows read, whoever owns them: for the data office only."""
     reply = _reply("figures_office_check", *_lent("list", list), _number("n", n))
-    return _refused(reply) if reply[0] == 0 else Rows(reply[1])
+    return _refused(reply) if reply[0] == _REFUSED else Rows(reply[1])

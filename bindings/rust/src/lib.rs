@@ -1,8 +1,9 @@
 //! The journey figures of the enquiry desk, over the proved library that `tools/library` makes ready to link.
 //!
 //! A day list is a slice of numbers, five a row: from, to, start, travel, owner. Stops are 0 to n - 1, times are whole
-//! seconds. Owner 0 is public; an asker sees the rows whose owner is 0 or the asker, and no answer, refusal or lent
-//! list depends on any other row, but for the refusals 1 and 2, which are about the list as a whole. A distance is the
+//! seconds. Owner 0 is public; an asker sees the rows whose owner is 0 or the asker. No answer, refusal or lent list of
+//! an [`Ask`] depends on any other row, but for the refusals 1 and 2, which are about the list as a whole. The
+//! [`office_check`] has no asker and reads every row: what it tells is for the data office only. A distance is the
 //! earliest arrival, less the interval's first reading.
 //!
 //! Every call takes numbers of any value, and answers or refuses; none panics or allocates. A call needs less than
@@ -151,7 +152,7 @@ fn parts(lent: &mut [u32]) -> (*mut u32, usize) {
     (lent.as_mut_ptr(), lent.len())
 }
 
-/// What is wrong with the list, all rows read, for the data office.
+/// What is wrong with the list, all rows read, whoever owns them: for the data office only.
 pub fn office_check(list: &[u32], n: u32) -> Office {
     let mut reply = [0; 5];
     // SAFETY: the pointer and the length are of one live slice, and the reply is this call's own.

@@ -1,31 +1,9 @@
 // Document 01's figures of day D through the wrapper, and what happens to lent lists.
-use figures::{office_check, Answer, Ask, Eccentricity, Filled, Office, Refusal};
-use figures::{HORIZON, MOST_ROWS, SCRATCH, STACK, UNREACHED};
+mod day;
 
-#[rustfmt::skip]
-const DAY_D: [u32; 35] = [
-    0, 1, 100, 20, 0,
-    1, 2, 120, 30, 0,
-    0, 2, 130, 10, 7,
-    1, 4, 130, 5, 9,
-    2, 3, 145, 15, 0,
-    2, 3, 150, 40, 0,
-    3, 4, 200, 5, 0,
-];
-
-fn ask(asker: u32) -> Ask<'static> {
-    Ask {
-        list: &DAY_D,
-        n: 5,
-        asker,
-        a: 100,
-        w: 300,
-    }
-}
-
-fn refusal(number: u32, place: u32) -> Refusal {
-    Refusal { number, place }
-}
+use day::{ask, refusal, DAY_D};
+use figures::{office_check, Answer, Ask, Eccentricity, Filled, Office};
+use figures::{HORIZON, SCRATCH, STACK, UNREACHED};
 
 #[test]
 fn distances_fill_the_first_places_and_keep_the_rest() {
@@ -130,24 +108,9 @@ fn the_office_check_reads_all_rows() {
     assert_eq!(office_check(&DAY_D, 5), Office::Rows(7));
     assert_eq!(office_check(&DAY_D, 4), Office::Refused(refusal(6, 3)));
     assert_eq!(
-        office_check(&DAY_D[..34], 5),
-        Office::Refused(refusal(1, 0))
-    );
-    assert_eq!(
-        office_check(&vec![0; 5 * (MOST_ROWS + 1)], 5),
-        Office::Refused(refusal(2, 0))
-    );
-    assert_eq!(
         office_check(&[0, 1, HORIZON - 1, 1, 256], 2),
         Office::Refused(refusal(11, 0))
     );
-}
-
-#[test]
-fn a_refusal_says_why_and_where() {
-    assert_eq!(refusal(4, 0).to_string(), "refused 4: asker above 255");
-    assert!(refusal(6, 3).to_string().ends_with("(row 3)"));
-    assert!(refusal(9, 2).to_string().ends_with("(pivot 2)"));
 }
 
 #[test]
