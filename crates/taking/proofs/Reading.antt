@@ -35,9 +35,9 @@ module _ (buffer : List ℕ) (day : Day) (line list pivots out line′ list′ p
   read-ended (pos (suc k)) n end e c f h = absurd (omega arith)
   read-ended (negsuc k) n end e c f h = absurd (subst T e tt)
 
-  pub read-piece : (z : ℤ) (n : ℕ) (r : Step) → ltZ z (pos 0) ≡ false → Moved mostBytes z → n ≡ clamped z mostBytes → (n ≡ 0 → ⊥) → PieceTaken (take n buffer) 0 day line list pivots out r line′ list′ pivots′ out′
+  pub read-piece : (z : ℤ) (n j : ℕ) (r : Step) → ltZ z (pos 0) ≡ false → Moved mostBytes z → n ≡ clamped z mostBytes → (n ≡ 0 → ⊥) → j ≡ n → PieceTaken (take j buffer) 0 day line list pivots out r line′ list′ pivots′ out′
       → ReadTaken z buffer day line list pivots out r line′ list′ pivots′ out′
-  read-piece (pos zero) n r e m c f h = absurd (f (omega arith))
-  read-piece (pos (suc k)) n r e m c f h =
-      let same : n ≡ suc k = omega arith in subst (λ (j : ℕ). PieceTaken (take j buffer) 0 day line list pivots out r line′ list′ pivots′ out′) same h
-  read-piece (negsuc k) n r e m c f h = absurd (subst T e tt)
+  read-piece (pos zero) n j r e m c f g h = absurd (f (omega arith))
+  read-piece (pos (suc k)) n j r e m c f g h =
+      let same : j ≡ suc k = omega arith in subst (λ (i : ℕ). PieceTaken (take i buffer) 0 day line list pivots out r line′ list′ pivots′ out′) same h
+  read-piece (negsuc k) n j r e m c f g h = absurd (subst T e tt)

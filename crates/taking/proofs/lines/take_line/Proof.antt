@@ -1,8 +1,8 @@
 -- The line's frame is read, and does what it does.
 use Prim.Native.Nat.{_-_}
-use mathlib.Core.Path.{_≡_}
 use native.Mathlib.Omega.{arith}
 use Rattle.taking.specs.Laws.Steps.{went-room, line-went, line-stopped}
+use Rattle.taking.proofs.Taking.{read-whole}
 use borrow.Author.Needs.{needs}
 use Rattle.taking.proofs.lines.take_line.Statement.{statement}
 use Rattle.taking.proofs.lines.take_line.Tie as tie
@@ -40,10 +40,9 @@ frame-line-requires c κs = search needs
 returns : tie.Need-returns
 returns c =
     let args = c .before .before .before .before .before .before .before .before .before .before .before .before .args in
-    let frame = c .before .before .before .before .take-frame in
-    let e : args .day .len - 0 ≡ args .day .len = omega arith in (
+    let frame = c .before .before .before .before .take-frame in (
       rw (c .on-next-line .ensures .1)
-          (line-went _ (args .day) (args .line .now) (args .list .now) (args .pivots .now) (args .out .now) _ _ _ _ _ (rw e at (c .before .before .before .before .before .before .before .before .before .read-frame .ensures)) (frame .ensures .0) (c .before .before .next .given .1)),
+          (line-went _ (args .day) (args .line .now) (args .list .now) (args .pivots .now) (args .out .now) _ _ _ _ _ (read-whole (args .day .len - 0) (args .day .len) (args .line .now) (c .before .before .before .before .before .before .before .before .before .read-frame .result) (omega arith) (c .before .before .before .before .before .before .before .before .before .read-frame .ensures)) (frame .ensures .0) (c .before .before .next .given .1)),
       frame .ensures .1,
     )
 
@@ -51,8 +50,7 @@ returns-2 : tie.Need-returns-2
 returns-2 c =
     let args = c .before .before .before .before .before .before .before .before .before .before .before .before .args in
     let frame = c .before .before .before .before .take-frame in
-    let e : args .day .len - 0 ≡ args .day .len = omega arith in
-    (line-stopped _ (args .day) (args .line .now) (args .list .now) (args .pivots .now) (args .out .now) _ _ _ _ _ _ (rw e at (c .before .before .before .before .before .before .before .before .before .read-frame .ensures)) (frame .ensures .0) (c .before .before .enum-told .given .1) (c .frame-line .ensures), frame .ensures .1)
+    (line-stopped _ (args .day) (args .line .now) (args .list .now) (args .pivots .now) (args .out .now) _ _ _ _ _ _ (read-whole (args .day .len - 0) (args .day .len) (args .line .now) (c .before .before .before .before .before .before .before .before .before .read-frame .result) (omega arith) (c .before .before .before .before .before .before .before .before .before .read-frame .ensures)) (frame .ensures .0) (c .before .before .enum-told .given .1) (c .frame-line .ensures), frame .ensures .1)
 
 pub take-line-spec : {M : Type 1} → statement M
 take-line-spec =

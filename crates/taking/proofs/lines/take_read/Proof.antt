@@ -1,6 +1,5 @@
 -- By what the read answered.
 use Prim.Native.Nat.{_-_}
-use mathlib.Core.Path.{_≡_}
 use native.Mathlib.Omega.{arith}
 use mir.Facts.{toZ-ofZ}
 use Rattle.taking.proofs.Reading.{ahead-part, ahead-one, read-failed, read-ended, read-piece}
@@ -33,7 +32,7 @@ take-bytes-requires : tie.Need-take-bytes-requires
 take-bytes-requires c κs = (c .before .before .before .before .before .before .before .before .before .before .before .pre .1 .1 .0, (ahead-part (c .before .before .before .before .before .before .before .before .count .result - 0) (c .before .before .before .before .before .before .before .before .before .before .before .args .buffer .now) (c .before .before .before .before .before .before .before .before .before .before .before .args .day) (c .before .before .before .before .before .before .before .before .before .before .before .pre .1 .0) (c .before .before .before .before .before .before .before .before .before .before .before .pre .1 .1 .1 .0), (c .before .before .before .before .before .before .before .before .before .before .before .pre .1 .1 .1 .1 .0, (c .before .before .before .before .before .before .before .before .before .before .before .pre .1 .1 .1 .1 .1 .0, c .before .before .before .before .before .before .before .before .before .before .before .pre .1 .1 .1 .1 .1 .1))))
 
 returns-3 : tie.Need-returns-3
-returns-3 c = let e : c .before .before .before .before .before .before .before .before .before .count .result - 0 ≡ c .before .before .before .before .before .before .before .before .before .count .result = omega arith in (read-piece (c .before .before .before .before .before .before .before .before .before .before .before .before .args .buffer .now) (c .before .before .before .before .before .before .before .before .before .before .before .before .args .day) (c .before .before .before .before .before .before .before .before .before .before .before .before .args .line .now) (c .before .before .before .before .before .before .before .before .before .before .before .before .args .list .now) (c .before .before .before .before .before .before .before .before .before .before .before .before .args .pivots .now) (c .before .before .before .before .before .before .before .before .before .before .before .before .args .out .now) (c .take-bytes .last .1 .0) (c .take-bytes .last .1 .1 .0) (c .take-bytes .last .1 .1 .1 .0) (c .take-bytes .last .1 .1 .1 .1 .1 .0) (c .before .before .before .before .before .before .before .before .before .before .before .before .args .got) (c .before .before .before .before .before .before .before .before .before .count .result) (c .take-bytes .result) (rw (toZ-ofZ (c .before .before .before .before .before .before .before .before .before .before .before .before .fits .got)) at (c .before .before .before .before .before .before .before .before .before .before .before .if1 .left)) (c .before .before .before .before .before .before .before .before .before .before .before .before .pre .0) (rw (c .before .before .before .before .before .before .before .before .before .before .before .before .pre .1 .0, toZ-ofZ (c .before .before .before .before .before .before .before .before .before .before .before .before .fits .got)) at (c .before .before .before .before .before .before .before .before .before .count .ensures .1)) (c .before .before .before .before .before .before .before .before .if2 .left) (rw e at (c .take-bytes .ensures .0)), c .take-bytes .ensures .1)
+returns-3 c = (read-piece (c .before .before .before .before .before .before .before .before .before .before .before .before .args .buffer .now) (c .before .before .before .before .before .before .before .before .before .before .before .before .args .day) (c .before .before .before .before .before .before .before .before .before .before .before .before .args .line .now) (c .before .before .before .before .before .before .before .before .before .before .before .before .args .list .now) (c .before .before .before .before .before .before .before .before .before .before .before .before .args .pivots .now) (c .before .before .before .before .before .before .before .before .before .before .before .before .args .out .now) (c .take-bytes .last .1 .0) (c .take-bytes .last .1 .1 .0) (c .take-bytes .last .1 .1 .1 .0) (c .take-bytes .last .1 .1 .1 .1 .1 .0) (c .before .before .before .before .before .before .before .before .before .before .before .before .args .got) (c .before .before .before .before .before .before .before .before .before .count .result) (c .before .before .before .before .before .before .before .before .before .count .result - 0) (c .take-bytes .result) (rw (toZ-ofZ (c .before .before .before .before .before .before .before .before .before .before .before .before .fits .got)) at (c .before .before .before .before .before .before .before .before .before .before .before .if1 .left)) (c .before .before .before .before .before .before .before .before .before .before .before .before .pre .0) (rw (c .before .before .before .before .before .before .before .before .before .before .before .before .pre .1 .0, toZ-ofZ (c .before .before .before .before .before .before .before .before .before .before .before .before .fits .got)) at (c .before .before .before .before .before .before .before .before .before .count .ensures .1)) (c .before .before .before .before .before .before .before .before .if2 .left) (omega arith) (c .take-bytes .ensures .0), c .take-bytes .ensures .1)
 
 pub take-read-spec : {M : Type 1} → statement M
 take-read-spec =

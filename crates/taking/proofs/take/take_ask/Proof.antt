@@ -1,8 +1,9 @@
 -- The rows and pivots read so far are asked over.
 use Prim.Native.Nat.{_-_, _*_}
-use mathlib.Core.Path.{_≡_, ap}
+use mathlib.Core.Path.{ap}
 use native.Mathlib.Omega.{arith}
 use Rattle.taking.specs.declared.state.Next.the-variants as next
+use Rattle.taking.proofs.Taking.{asked-whole}
 use borrow.Author.Needs.{needs}
 use Rattle.taking.proofs.take.take_ask.Statement.{statement}
 use Rattle.taking.proofs.take.take_ask.Tie as tie
@@ -44,12 +45,12 @@ returns : tie.Need-returns
 returns c =
     let args = c .before .before .before .before .before .before .before .before .before .before .before .args in
     let asked = c .before .before .before .pivot-diameter in
-    let e : args .day .rows * 5 - 0 ≡ args .day .rows * 5 = omega arith in
-    let f : args .day .pivots * 2 - 0 ≡ args .day .pivots * 2 = omega arith in
     record {
       answer = asked .result;
       end = c .before .answer-line .result;
-      answered = rw (e, f) at (asked .ensures);
+      answered =
+          asked-whole (args .day .rows * 5 - 0) (args .day .rows * 5) (args .day .pivots * 2 - 0) (args .day .pivots * 2) (args .list .now) (args .pivots .now) (args .scratch .now) (args .day .n) (args .asker) (args .a) (args .w) (asked .result) _
+          (omega arith) (omega arith) (asked .ensures);
       printed = c .before .answer-line .ensures;
       goes = ap next.Go (c .with-made .ensures .1);
     }
