@@ -1,5 +1,4 @@
 // Pieces of the input taken one after another: lines, frames, what is known of the day, and what is printed.
-
 mod lines;
 mod state;
 mod take;
