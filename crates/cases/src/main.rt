@@ -1,4 +1,6 @@
 // Runs the cases of document 01 that are not starred, and prints what came.
+#![tactic(auto)]
+
 mod asks;
 mod office;
 mod pivots;

@@ -1,24 +1,26 @@
 // Clock readings and lengths of time, in whole seconds, kept apart by type: nothing here adds two readings.
+#![tactic(auto)]
+
 ghost use Rattle.std.specs.Prelude.{◌≡◌, ◌+◌};
 ghost use Rattle.clock.specs.Time.{made_of, gap_of, last_reading};
 
 // A reading of the clock.
-#[derive(Drop)]
+#[derive(Clone, Copy)]
 pub struct Reading(pub u32);
 
 // A length of time.
-#[derive(Drop)]
+#[derive(Clone, Copy)]
 pub struct Length(pub u32);
 
 // A reading, or past the horizon.
-#[derive(Drop)]
+#[derive(Clone, Copy)]
 pub enum Made {
     At(Reading),
     Past,
 }
 
 // The length from an earlier reading to a later one, or none where the first is the later.
-#[derive(Drop)]
+#[derive(Clone, Copy)]
 pub enum Gap {
     Of(Length),
     Before,
@@ -68,7 +70,7 @@ impl Reading {
 
 // The constant is the horizon of the rules.
 pub fn horizon() -> Reading
-    ensures* constant { do v ← (⟦Reading::HORIZON.0⟧).entry; ⌜ result.0 ≡ v ⌝ }
+    ensures constant { result.0 ≡ Reading.HORIZON.0 }
     ensures rules { result ≡ last_reading }
 {
     Reading::HORIZON

@@ -1,22 +1,22 @@
 -- What the scans find is what the table says: 6 for the first faulty row; in the office check 6, and 11.
-use Prim.Native.Nat.{ℕ, zero, suc, ◌+◌, ◌≤◌, ◌<◌}
+use Prim.Native.Nat.{ℕ, zero, suc, ◌+◌, ◌<◌}
 use native.Mathlib.Omega.{arith}
-use mathlib.Core.Path.{◌≡◌, refl, sym, ap, ◌∙◌, subst}
+use mathlib.Core.Path.{◌≡◌, refl, sym, subst}
 use mathlib.Core.Logic.{◌⊎◌, inl, inr}
 use mathlib.Core.Bool.{Bool, true, false, cond, ◌&&◌, and-false}
 use mathlib.Core.List.{List, [], ◌∷◌}
 use mathlib.Core.Option.{Option, none, some}
 use lib.Dec.{leb, ltb}
-use borrow.Author.Tests.{leb-true, leb-false, lt-leb, ltb-true, ltb-false, lt-ltb}
+use borrow.Author.Tests.{leb-false, lt-leb, ltb-true, lt-ltb}
 use Rattle.rules.specs.Words.{Least, At, at_first, at_later}
-use Rattle.rules.specs.Day.{last_client, Row, Sound, Faulty, unsound, falls, Overowned, overowned}
+use Rattle.rules.specs.Day.{last_client, Row, Faulty, unsound, falls, Overowned, overowned}
 use Rattle.rules.specs.Table.{row_fault, check_6, office_rows, FirstWrong}
 use Rattle.rules.specs.Laws.Single.{least_single}
 use Rattle.rules.specs.Laws.Good.{at_same}
 use Rattle.day.specs.Rows.{soundb, rightb}
 use Rattle.day.specs.Verdicts.{Refusal, first_said, fault_says, office_number, office_says, verdict_of, Judges}
-use Rattle.day.proofs.Sounding.{both, not_both, sound_of, of_sound}
-use Rattle.day.proofs.Saying.{start_before, SaidAt, FirstSaidAt, Finds, first_said_finds}
+use Rattle.day.proofs.Sounding.{not_both, sound_of, of_sound}
+use Rattle.day.proofs.Saying.{start_before, SaidAt, Finds, first_said_finds}
 
 -- the row before row i + 1 is row i
 before_next : (last : ℕ) {j : ℕ} {q : Row} {rs : List Row} → At rs j q → start_before last rs (suc j) ≡ q.start

@@ -10,7 +10,7 @@ use clock::Reading;
 pub const ROW_FAULT: u32 = 6;
 
 // What a check finds.
-#[derive(Drop)]
+#[derive(Clone, Copy)]
 pub enum Verdict {
     Fine,
     Refused { number: u32, place: u32 },

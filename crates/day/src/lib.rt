@@ -1,4 +1,6 @@
 // A day list as rows: one row read, what an asker sees, the asker's rows copied out, the first row that is wrong.
+#![tactic(auto)]
+
 mod faults;
 mod own;
 mod row;

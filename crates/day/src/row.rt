@@ -15,7 +15,7 @@ pub const MOST_ROWS: usize = 2048;
 pub const LAST_CLIENT: u32 = 255;
 
 // A row as it stands in the list.
-#[derive(Drop)]
+#[derive(Clone, Copy)]
 pub struct Row {
     pub from: u32,
     pub to: u32,

@@ -48,7 +48,7 @@ module _ (rs : List Row) (n A W : ℕ) where
 
   no_12 : (place : ℕ) → (check_12 (rows_day rs) A W (pivots_of [])).given place → ⊥
   unfolding pivots_of
-  no_12 = passes (λ u. Memᴰ.not_nil u.joined.listed)
+  no_12 = passes (λ u. Memᴰ.not-nil u.joined.listed)
 
   pub refuses_7 : (stop : ℕ) (rooms : List Room) → n ≤ stop → Refuses (last_checks rs n A W (takes (stop ∷ []) [] rooms)) 7 0
   refuses_7 stop rooms l = inl (refl, (refl, any_here l))

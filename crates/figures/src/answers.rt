@@ -6,14 +6,14 @@ use clock::Length;
 use search::{Far, Search};
 
 // A call that fills a list: done, or a refusal.
-#[derive(Drop)]
+#[derive(Clone, Copy)]
 pub enum Filled {
     Done,
     Refused { number: u32, place: u32 },
 }
 
 // An eccentricity: a length, none, or a refusal.
-#[derive(Drop)]
+#[derive(Clone, Copy)]
 pub enum Eccentricity {
     Value(Length),
     Nothing,
@@ -21,7 +21,7 @@ pub enum Eccentricity {
 }
 
 // A diameter: a value with its pair and the visits, none with the visits, or a refusal.
-#[derive(Drop)]
+#[derive(Clone, Copy)]
 pub enum Answer {
     Value {
         value: Length,
@@ -39,7 +39,7 @@ pub enum Answer {
 }
 
 // The office check: the number of rows, or a refusal.
-#[derive(Drop)]
+#[derive(Clone, Copy)]
 pub enum Office {
     Rows(u32),
     Refused { number: u32, place: u32 },

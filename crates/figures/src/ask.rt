@@ -8,7 +8,7 @@ use crate::checks::plain_check;
 use day::{ROW_WIDTH, Verdict, first_fault, own_rows};
 
 // The number of the asker's rows, or a refusal.
-#[derive(Drop)]
+#[derive(Clone, Copy)]
 pub enum Prepared {
     Rows(usize),
     Refused { number: u32, place: u32 },

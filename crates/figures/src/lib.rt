@@ -1,4 +1,6 @@
 // The calls of the enquiry desk. Each takes any input, and answers or refuses as the table says.
+#![tactic(auto)]
+
 mod answers;
 mod ask;
 mod backward;

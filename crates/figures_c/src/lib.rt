@@ -1,4 +1,6 @@
 // The calls of `figures` for C and Rust to link. Each is a thin call, and its answer is written as five numbers.
+#![tactic(auto)]
+
 mod backward;
 mod forward;
 mod office;

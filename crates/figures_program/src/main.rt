@@ -1,4 +1,6 @@
 // The figures program: reads frames from standard input, one a line, and answers each ask.
+#![tactic(auto)]
+
 mod input;
 
 use crate::input::{read_all, write};

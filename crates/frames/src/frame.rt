@@ -5,7 +5,7 @@ ghost use Rattle.frames.specs.Parts.{Opens};
 use crate::digits::{all_digits, number_at};
 
 // A frame by its type, or no frame.
-#[derive(Drop)]
+#[derive(Clone, Copy)]
 pub enum Frame {
     Stops(u32),
     Row {

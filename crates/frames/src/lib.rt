@@ -1,4 +1,6 @@
 // One line of hexadecimal to a frame.
+#![tactic(auto)]
+
 mod digits;
 mod frame;
 

@@ -11,7 +11,7 @@ use clock::Length;
 pub const UNREACHED: u32 = 4294967295;
 
 // When a stop is reached, as a length since A.
-#[derive(Drop)]
+#[derive(Clone, Copy)]
 pub enum Arrival {
     After(Length),
     Unreached,

@@ -14,7 +14,7 @@ use day::{ROW_WIDTH, Row, row_at};
 pub const LEG_WIDTH: usize = 4;
 
 // A leg: from where, to where, and when it starts and arrives.
-#[derive(Drop)]
+#[derive(Clone, Copy)]
 pub struct Leg {
     pub from: u32,
     pub to: u32,
@@ -23,7 +23,7 @@ pub struct Leg {
 }
 
 // A row as a leg, if it lies in the interval.
-#[derive(Drop)]
+#[derive(Clone, Copy)]
 pub enum MadeLeg {
     Of(Leg),
     Outside,

@@ -1,4 +1,6 @@
 // Scans over own rows: legs laid out once, the forward pass from a source, and the backward sweep to a target.
+#![tactic(auto)]
+
 mod backward;
 mod forward;
 mod front;

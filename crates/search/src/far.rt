@@ -6,7 +6,7 @@ ghost use Rattle.search.specs.Farthest.{farther, farthest_in};
 use passes::UNREACHED;
 
 // The greatest distance to a target, 0 for none, and the lowest source at that distance.
-#[derive(Drop)]
+#[derive(Clone, Copy)]
 pub struct Far {
     pub value: u32,
     pub source: u32,

@@ -1,4 +1,6 @@
 // The search for the farthest pair: bounds, the order of targets, the farthest source of a target, the state.
+#![tactic(auto)]
+
 mod entries;
 mod far;
 mod pivots;

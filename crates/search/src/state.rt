@@ -7,7 +7,7 @@ use crate::far::Far;
 use crate::targets::Place;
 
 // The best value, at first 0, the pair that has it, and the number of visits.
-#[derive(Drop)]
+#[derive(Clone, Copy)]
 pub struct Search {
     pub best: u32,
     pub source: u32,

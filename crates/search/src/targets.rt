@@ -6,14 +6,14 @@ ghost use Rattle.search.specs.Targets.{before_all, afterb, chosen, next_in};
 use passes::UNREACHED;
 
 // A stop with its bound.
-#[derive(Drop)]
+#[derive(Clone, Copy)]
 pub struct Place {
     pub bound: u32,
     pub stop: u32,
 }
 
 // The next target, or the end of the targets.
-#[derive(Drop)]
+#[derive(Clone, Copy)]
 pub enum Next {
     At(Place),
     End,

@@ -33,7 +33,7 @@ pub type Out = [u8; OUT_ROOM];
 
 // The stops, if they were given; how many rows and pivots there are; the number of the line, from
 // 1, and how many of its bytes were read; how many bytes the piece has made to print.
-#[derive(Drop)]
+#[derive(Clone, Copy)]
 pub struct Day {
     pub given: bool,
     pub n: u32,
@@ -45,14 +45,14 @@ pub struct Day {
 }
 
 // The day after a frame, or none where it can't be taken.
-#[derive(Drop)]
+#[derive(Clone, Copy)]
 pub enum Next {
     Go(Day),
     Stop,
 }
 
 // The day after some bytes; or the end of the run, with how many bytes are to print.
-#[derive(Drop)]
+#[derive(Clone, Copy)]
 pub enum Step {
     Go(Day),
     Stop(usize),

@@ -1,5 +1,5 @@
 -- A row read, and a verdict, are one.
-use Rattle.std.specs.Prelude.{ℕ, ◌≡◌, refl, List}
+use Rattle.std.specs.Prelude.{◌≡◌, refl, List}
 use Rattle.rules.specs.Table.{Check}
 use Rattle.rules.specs.Laws.Single.{clear_or_refused, OnePlace, refusal_single}
 use Rattle.day.specs.declared.row.Row as declared

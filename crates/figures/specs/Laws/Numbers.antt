@@ -29,8 +29,8 @@ pub no_pivot : (q : Ask) → NoneShown (JoinedPairs q []) (PivotBounds q []) 0
 unfolding pivots_of
 no_pivot q =
     record {
-      nobody = λ u v d p. Memᴰ.not_nil p.1.listed;
+      nobody = λ u v d p. Memᴰ.not-nil p.1.listed;
       order = [];
-      targets = record { sorted = sorted_none; bounded = λ v. (λ m. absurd (Memᴰ.not_nil m), λ b. absurd (Memᴰ.not_nil b.1.holds.1)) };
+      targets = record { sorted = sorted_none; bounded = λ v. (λ m. absurd (Memᴰ.not-nil m), λ b. absurd (Memᴰ.not-nil b.1.holds.1)) };
       taken = at_end;
     }

@@ -102,7 +102,7 @@ goodb n last (r ∷ rs) = rightb n last r && goodb n r.start rs
 
 good_from : (n last : ℕ) (rs : List Row) → goodb n last rs ≡ true → Good n rs × ((q : Row) → Memᴰ q rs → last ≤ q.start)
 unfolding goodb
-good_from n last [] e = (good_none, λ q m. absurd (Memᴰ.not_nil m))
+good_from n last [] e = (good_none, λ q m. absurd (Memᴰ.not-nil m))
 good_from n last (r ∷ rs) e =
     let b = both (rightb n last r) _ e in
     let c = both (leb last r.start) (soundb n r) b.0 in
@@ -120,7 +120,7 @@ sitsb n A W (p ∷ ps) = ltb p.stop n && (leb A p.reading && (leb p.reading W &&
 
 sits_of : (n A W : ℕ) (ps : List Pivot) → sitsb n A W ps ≡ true → (p : Pivot) → Memᴰ p ps → Sits n A W p
 unfolding sitsb
-sits_of n A W [] e p m = absurd (Memᴰ.not_nil m)
+sits_of n A W [] e p m = absurd (Memᴰ.not-nil m)
 sits_of n A W (q ∷ ps) e p m =
     let b = both (ltb q.stop n) _ e in
     let c = both (leb A q.reading) _ b.1 in

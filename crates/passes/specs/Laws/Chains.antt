@@ -49,5 +49,5 @@ spans (ride m) = omega arith
 spans (onto m w p) = omega (arith, spans p)
 
 pub empty_route : {f l : Row} → Route (rows_day []) f l → ⊥
-empty_route (ride m) = Memᴰ.not_nil m
-empty_route (onto m w p) = Memᴰ.not_nil m
+empty_route (ride m) = Memᴰ.not-nil m
+empty_route (onto m w p) = Memᴰ.not-nil m

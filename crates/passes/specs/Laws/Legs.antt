@@ -47,11 +47,11 @@ leg_in A W (q ∷ rs) r m a w = go (legs_of_lem A W q rs) m (λ n. leg_in A W rs
     go (one_more b e) (Memᴰ.tail n) rec = Memᴰ.tail (rec n)
     go (as_before h) (Memᴰ.head x) rec = absurd (h (rw x at a) (rw x at w))
     go (as_before h) (Memᴰ.tail n) rec = rec n
-leg_in A W [] r m a w = absurd (Memᴰ.not_nil m)
+leg_in A W [] r m a w = absurd (Memᴰ.not-nil m)
 
 pub leg_out : (A W : ℕ) (rs : List Row) (q : Row) → Memᴰ q (legs_of A W rs) → From A W rs q
 unfolding legs_of
-leg_out A W [] q m = absurd (Memᴰ.not_nil m)
+leg_out A W [] q m = absurd (Memᴰ.not-nil m)
 leg_out A W (r ∷ rs) q m = go (legs_of_lem A W r rs) m (leg_out A W rs q)
   where
     later : From A W rs q → From A W (r ∷ rs) q

@@ -1,13 +1,13 @@
 -- Every check is decided: for any input the table is clear, or it refuses with a number and a place.
-use Rattle.std.specs.Prelude.{ℕ, zero, suc, ◌+◌, ◌%◌, ◌≤◌, ◌<◌, ◌≡◌, refl, ◌≢◌, ◌⊎◌, length}
-use Rattle.std.proofs.Common.{ap, sym, ◌∙◌, subst, inl, inr, arith}
+use Rattle.std.specs.Prelude.{ℕ, zero, suc, ◌+◌, ◌%◌, ◌≤◌, ◌<◌, ◌≡◌, refl, ◌⊎◌, length}
+use Rattle.std.proofs.Common.{ap, subst, inl, inr, arith}
 use mathlib.Core.List.{List, [], ◌∷◌, Memᴰ}
 use Rattle.std.proofs.Math.Decide.{ℕ_discrete, dec_le, dec_lt}
 use Rattle.rules.specs.Words.{Least, At, at_first, at_later, Any, any_here, any_later}
 use Rattle.rules.specs.Clock.{horizon}
-use Rattle.rules.specs.Day.{most_stops, most_rows, last_client, row_width, Row, rows_of, Sound, Faulty, unsound, falls, Overowned, overowned, Ask, asker's_rows}
+use Rattle.rules.specs.Day.{Row, rows_of, Sound, Faulty, unsound, falls, Overowned, overowned, Ask, asker's_rows}
 use Rattle.rules.specs.Pivots.{Pivot, pivots_of, Astray, no_stop, too_early, too_late}
-use Rattle.rules.specs.Table.{Check, when, check_at_first, Takes, Room, FirstWrong, table, office_table, Clear, Refuses}
+use Rattle.rules.specs.Table.{Check, when, check_at_first, Takes, FirstWrong, table, office_table, Clear, Refuses}
 use Rattle.rules.specs.Laws.Single.{least_single}
 use Rattle.rules.specs.Laws.Good.{Good, none_if_no_least, faultless_good, decide_sound, at_same, at_below}
 use Rattle.rules.specs.Laws.Joined.{Sits, none_astray_sits, up_to10, clear_without_12, with_12}

@@ -1,6 +1,6 @@
 -- Where nothing is at fault, the rows are sound and their starts do not fall.
-use Rattle.std.specs.Prelude.{ℕ, zero, suc, ◌+◌, ◌≤◌, ◌<◌, ◌≡◌, refl, ◌≢◌, length}
-use Rattle.std.proofs.Common.{ap, sym, ◌∙◌, arith, add-one}
+use Rattle.std.specs.Prelude.{ℕ, zero, suc, ◌≤◌, ◌<◌, ◌≡◌, refl, length}
+use Rattle.std.proofs.Common.{arith}
 use mathlib.Core.List.{List, [], ◌∷◌, Memᴰ}
 use Rattle.std.proofs.Math.Decide.{ℕ_discrete, dec_le, dec_lt}
 use Rattle.rules.specs.Words.{Least, At, at_first, at_later}
@@ -53,6 +53,7 @@ faultless_good n (r ∷ rs) no_fault = go (decide_sound n r) (faultless_good n r
         next (yes d) (Memᴰ.head e) = rw e d
         next (yes d) (Memᴰ.tail x) = omega (arith, above q x)
         next (no d) x = absurd (no_fault 1 (falls at_first (at_later (same p at_first)) refl (omega arith)))
+    up [] same _ q m = elim m [ ]
 
     go : Dec (Sound n r) → Good n rs → Good n (r ∷ rs)
     go (yes s) g = good_more s (up rs (λ q a. a) g) g
@@ -73,12 +74,14 @@ at_same (at_later a) (at_later b) = at_same a b
 pub good_sound : {n : ℕ} {rs : List Row} → Good n rs → (q : Row) → Memᴰ q rs → Sound n q
 good_sound (good_more s up g) q (Memᴰ.head e) = rw e s
 good_sound (good_more s up g) q (Memᴰ.tail m) = good_sound g q m
+good_sound {n = n} good_none q x3 = elim x3 [ ]
 
 good_rises : {n : ℕ} {rs : List Row} {i j : ℕ} {q r : Row} → Good n rs → At rs j q → At rs i r → i ≡ suc j → q.start ≤ r.start
 good_rises {r = r} (good_more s up g) at_first (at_later b) e = up r (at_member b)
 good_rises (good_more s up g) at_first at_first e = absurd (omega arith)
 good_rises (good_more s up g) (at_later a) at_first e = absurd (omega arith)
 good_rises (good_more s up g) (at_later a) (at_later b) e = good_rises g a b (omega arith)
+good_rises {n = n} {i = i} {j = j} {q = q} {r = r} good_none x7 _ e = elim x7 [ ]
 
 pub good_faultless : {n : ℕ} {rs : List Row} → Good n rs → (i : ℕ) → Faulty n rs i → ⊥
 good_faultless g i (unsound {r = r} a s) = s (good_sound g r (at_member a))

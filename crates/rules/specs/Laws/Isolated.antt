@@ -1,6 +1,6 @@
 -- What the table depends on: of the list, that it is fit, and the asker's rows.
-use Rattle.std.specs.Prelude.{ℕ, suc, ◌%◌, ◌≤◌, ◌<◌, ◌≡◌, refl, ◌≢◌, ◌⊎◌, Bool, true, false, cond, ◌||◌, List, [], ◌∷◌, length, eqb}
-use Rattle.std.proofs.Common.{ap, sym, ◌∙◌, subst, inl, inr, arith}
+use Rattle.std.specs.Prelude.{ℕ, suc, ◌%◌, ◌≤◌, ◌<◌, ◌≡◌, refl, ◌≢◌, Bool, true, false, cond, List, [], ◌∷◌, length}
+use Rattle.std.proofs.Common.{sym, subst, inl, inr, arith}
 use Rattle.rules.specs.Day.{most_rows, row_width, Row, rows_of, sees, own, Ask}
 use Rattle.rules.specs.Table.{check_2, Takes, table_of_rows, table, Clear, Refuses}
 use Rattle.rules.specs.Struck.{Fit, struck, SameToAsker}

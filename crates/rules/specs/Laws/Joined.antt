@@ -1,13 +1,13 @@
 -- A joined pair always has a compatible route: number 12 is never given.
-use Rattle.std.specs.Prelude.{ℕ, zero, suc, ◌+◌, ◌%◌, ◌≤◌, ◌<◌, ◌≡◌, refl, ◌≢◌, length}
-use Rattle.std.proofs.Common.{ap, sym, ◌∙◌, inl, inr, arith}
+use Rattle.std.specs.Prelude.{ℕ, suc, ◌≤◌, ◌<◌, ◌≡◌, ◌≢◌}
+use Rattle.std.proofs.Common.{sym, ◌∙◌, inl, inr, arith}
 use mathlib.Core.List.{List, [], ◌∷◌, ◌++◌, Memᴰ}
 use Rattle.std.proofs.Math.Decide.{dec_le}
-use Rattle.rules.specs.Words.{Least, Any, At, at_first, at_later}
+use Rattle.rules.specs.Words.{Least, At, at_first, at_later}
 use Rattle.rules.specs.Day.{Row, Day, Ask, asker's_day}
 use Rattle.rules.specs.Routes.{Follows, Route, ride, onto, Compatible}
 use Rattle.rules.specs.Pivots.{Pivot, pivots_of, Into, Onward, Joins, Joined, Astray, no_stop, too_early, too_late}
-use Rattle.rules.specs.Table.{Check, when, check_at_first, Takes, Unrouted, table, Clear, Refuses}
+use Rattle.rules.specs.Table.{Check, when, Takes, Unrouted, table, Clear, Refuses}
 use Rattle.rules.specs.Laws.Good.{none_if_no_least}
 
 -- routes one after the other
@@ -41,8 +41,8 @@ joins_has_route {day} {A} {W} {u} {v} {p} a w j = go j.into j.onward
           ends = o.ends;
         }
 
-member_at : {A : Type 0} {xs : List A} {x : A} → Memᴰ x xs → (i : ℕ) × At xs i x
-member_at {A} {xs} {x} (Memᴰ.head {xs = ys} e) = (0, rw (sym e) at_first)
+member_at : {A : Type 0} {x : A} {xs : List A} → Memᴰ x xs → (i : ℕ) × At xs i x
+member_at {A} {x} {xs} (Memᴰ.head {xs = ys} e) = (0, rw (sym e) at_first)
 member_at (Memᴰ.tail m) = let t = member_at m in (suc t.0, at_later t.1)
 
 -- where no pivot is astray, each sits
@@ -86,6 +86,7 @@ Avoids k (c ∷ cs) = (k ≢ c.number) × Avoids k cs
 avoided : (cs : List Check) (k p : ℕ) → Avoids k cs → Refuses cs k p → ⊥
 avoided (c ∷ cs) k p a (inl x) = a.0 x.0
 avoided (c ∷ cs) k p a (inr x) = avoided cs k p a.1 x.1
+avoided [] k p a x'' = elim x'' [ ]
 
 -- the table up to 10: all of it but the last
 abbrev pub but_last : List Check → List Check
@@ -109,6 +110,7 @@ without_12 q t k p r = last_out (up_to10 q t) (when 12 (Unrouted (asker's_day q)
 more_checks : (cs : List Check) (c : Check) (k p : ℕ) → Refuses cs k p → Refuses (cs ++ (c ∷ [])) k p
 more_checks (d ∷ ds) c k p (inl x) = inl x
 more_checks (d ∷ ds) c k p (inr x) = inr (x.0, more_checks ds c k p x.1)
+more_checks [] c k p x' = elim x' [ ]
 
 pub with_12 : (q : Ask) (t : Takes) (k p : ℕ) → Refuses (up_to10 q t) k p → Refuses (table q t) k p
 with_12 q t k p r = more_checks (up_to10 q t) (when 12 (Unrouted (asker's_day q) q.A q.W (pivots_of t.pivots))) k p r

@@ -1,7 +1,6 @@
 -- Rows read from a list of numbers, and written as numbers again.
 use Rattle.std.specs.Prelude.{ℕ, suc, ◌+◌, ◌*◌, ◌%◌, ◌/◌, ◌≡◌, refl, List, ◌++◌, length, get_or}
 use Rattle.std.proofs.Common.{arith, get_or-append-add}
-use Rattle.rules.specs.Words.{things_from}
 use Rattle.rules.specs.Day.{row_width, Row, row_at, rows_of}
 use Rattle.rules.specs.Struck.{numbers, numbers_of}
 use Rattle.rules.specs.Laws.Written.{length_things, length_written, written_read}

@@ -1,5 +1,5 @@
 -- Each definition leaves one possible figure.
-use Rattle.std.specs.Prelude.{ℕ, zero, suc, ◌+◌, ◌*◌, ◌/◌, ◌%◌, ◌≤◌, ◌<◌, max, ◌≡◌, refl, ◌≢◌, ◌⊎◌, length, get_or}
+use Rattle.std.specs.Prelude.{ℕ, zero, suc, ◌+◌, ◌*◌, ◌/◌, ◌%◌, ◌≤◌, ◌<◌, max, ◌≡◌, refl, get_or}
 use Rattle.std.proofs.Common.{ap, sym, ◌∙◌, subst, inl, inr, arith, div-add-mod', mod-lt, div-lt_iff_lt-mul, ext_get_or}
 use mathlib.Core.List.Memᴰ
 use mathlib.Core.List.{List, [], ◌∷◌, Memᴰ}
@@ -8,9 +8,9 @@ use Rattle.std.proofs.Math.Decide.{dec_lt}
 use Rattle.rules.specs.Words.{Least, Greatest, GreatestIfAny}
 use Rattle.rules.specs.Clock.{horizon}
 use Rattle.rules.specs.Day.{Row, Faulty, Day, Ask}
-use Rattle.rules.specs.Routes.{Dist, unreached, after, Compatible, Distance, itself, reached, no_route, Earliest, in_numbers}
+use Rattle.rules.specs.Routes.{Dist, after, Compatible, Distance, itself, reached, no_route, Earliest, in_numbers}
 use Rattle.rules.specs.Eccentricity.{Backward}
-use Rattle.rules.specs.Diameter.{Before, bound_falls, number_rises, Sorted, sorted_none, sorted_more, Targets, counted, Visits, at_end, stop, visit, First, here, further, Shown, NoneShown}
+use Rattle.rules.specs.Diameter.{Before, bound_falls, number_rises, Sorted, sorted_more, Targets, counted, Visits, at_end, stop, visit, First, here, further, Shown, NoneShown}
 use Rattle.rules.specs.Table.{Check, Takes, table, office_table, Clear, Refuses}
 use Rattle.rules.specs.Lent.{Fills, Wiped, Stands}
 use Rattle.rules.specs.Figures.{TableOf}
@@ -86,8 +86,8 @@ module _ {Bound : ℕ → ℕ → Type 0} (one : (v b c : ℕ) → Bound v b →
   sorted_single : (vs ws : List ℕ) → Sorted Bound vs → Sorted Bound ws → ((v : ℕ) → Memᴰ v vs → Memᴰ v ws)
       → ((v : ℕ) → Memᴰ v ws → Memᴰ v vs) → vs ≡ ws
   sorted_single [] [] s t f g = refl
-  sorted_single [] (w ∷ ws) s t f g = absurd (Memᴰ.not_nil (g w (Memᴰ.head refl)))
-  sorted_single (v ∷ vs) [] s t f g = absurd (Memᴰ.not_nil (f v (Memᴰ.head refl)))
+  sorted_single [] (w ∷ ws) s t f g = absurd (Memᴰ.not-nil (g w (Memᴰ.head refl)))
+  sorted_single (v ∷ vs) [] s t f g = absurd (Memᴰ.not-nil (f v (Memᴰ.head refl)))
   sorted_single (v ∷ vs) (w ∷ ws) (sorted_more a s) (sorted_more b t) f g =
       ends (sorted_single vs ws s t
       (λ z m. inner m (f z (Memᴰ.tail m)))
@@ -168,6 +168,7 @@ module _ {Pair : ℕ → ℕ → ℕ → Type 0} {Bound : ℕ → ℕ → Type 0
 pub clear_or_refused : (cs : List Check) (k p : ℕ) → Clear cs → Refuses cs k p → ⊥
 clear_or_refused (c ∷ cs) k p h (inl x) = h.0 p x.1
 clear_or_refused (c ∷ cs) k p h (inr x) = clear_or_refused cs k p h.1 x.1
+clear_or_refused [] k p h x'' = elim x'' [ ]
 
 -- each check is given with one place
 abbrev pub OnePlace : List Check → Type 0
@@ -179,6 +180,7 @@ refusal_single (c ∷ cs) s k p k' p' (inl x) (inl y) = (x.0 ∙ sym y.0, s.0 p 
 refusal_single (c ∷ cs) s k p k' p' (inl x) (inr y) = absurd (y.0 p x.1)
 refusal_single (c ∷ cs) s k p k' p' (inr x) (inl y) = absurd (x.0 p' y.1)
 refusal_single (c ∷ cs) s k p k' p' (inr x) (inr y) = refusal_single cs s.1 k p k' p' x.1 y.1
+refusal_single [] s k p k' p' x3 _ = elim x3 [ ]
 
 pub zero_place : {P : Type 0} (p q : ℕ) → (p ≡ 0) × P → (q ≡ 0) × P → p ≡ q
 zero_place p q h k = h.0 ∙ sym k.0

@@ -37,6 +37,7 @@ module _ {Pair : ℕ → ℕ → ℕ → Type 0} where
   at_least_each {d = d} (all_more {v = w} e b x) (mathlib.Core.List.Memᴰ.head same) h =
       let f : e ≡ some d = if_any_single (λ c. (u : ℕ) × Pair u w c) e (some d) b (rw (← same) h) in omega (arith, no_less x, ap counted f)
   at_least_each (all_more e b x) (mathlib.Core.List.Memᴰ.tail m) h = at_least_each x m h
+  at_least_each {v = v} {d = d} (all_done {best = best}) x9 h = elim x9 [ ]
 
   at_most : {vs : List ℕ} {best last : ℕ} → AllVisited Pair vs best last → (m : ℕ) → best ≤ m → ((u v d : ℕ) → Pair u v d → d ≤ m) → last ≤ m
   at_most all_done m l h = l

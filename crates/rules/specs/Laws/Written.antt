@@ -32,7 +32,7 @@ module _ {A : Type 0} (thing : ℕ → A) where
   -- each of them is a thing at its place
   pub things_member : (k i : ℕ) (x : A) → Memᴰ x (things_from thing k i) → (j : ℕ) × (i ≤ j) × (j < i + k) × (x ≡ thing j)
   unfolding things_from
-  things_member zero i x m = absurd (Memᴰ.not_nil m)
+  things_member zero i x m = absurd (Memᴰ.not-nil m)
   things_member (suc k) i x (Memᴰ.head e) = (i, omega arith, omega arith, e)
   things_member (suc k) i x (Memᴰ.tail m) = let t = things_member k (suc i) x m in (t.0, omega (arith, t.1), omega (arith, t.2), t.3)
 

@@ -82,7 +82,7 @@ each_suc P k h l u m = go (ℕ_discrete u k)
 
 pub greatest_of_all : {X : Type 0} (f : X → Option ℕ) (xs : List X) → GreatestIfAny (Has f xs) (greatest_of f xs)
 unfolding greatest_of
-greatest_of_all f [] = λ d h. Memᴰ.not_nil h.1
+greatest_of_all f [] = λ d h. Memᴰ.not-nil h.1
 greatest_of_all {X} f (x ∷ xs) = go (f x) (greatest_of f xs) refl (greatest_of_all f xs)
   where
     split : (P : ℕ → Type 0) → ((d : ℕ) → f x ≡ some d → P d) → ((d : ℕ) → Has f xs d → P d) → (d : ℕ) → (y : X) → Memᴰ y (x ∷ xs) → f y ≡ some d → P d
@@ -114,7 +114,7 @@ pub stop_below : (n v : ℕ) → Memᴰ v (stops n) → v < n
 unfolding stops
 stop_below (suc n) v (Memᴰ.head e) = omega arith
 stop_below (suc n) v (Memᴰ.tail m) = omega (arith, stop_below n v m)
-stop_below zero v m = absurd (Memᴰ.not_nil m)
+stop_below zero v m = absurd (Memᴰ.not-nil m)
 
 pub below_stop : (n v : ℕ) → v < n → Memᴰ v (stops n)
 unfolding stops

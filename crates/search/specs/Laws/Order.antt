@@ -106,7 +106,7 @@ order_length g (suc k) = go (g k) (order_length g k)
 
 pub order_target : (g : ℕ → Option ℕ) (k q : ℕ) → Memᴰ q (order g k) → TargetBelow g k q
 unfolding order
-order_target g zero q m = absurd (Memᴰ.not_nil m)
+order_target g zero q m = absurd (Memᴰ.not-nil m)
 order_target g (suc k) q m = go (g k) refl m (order_target g k)
   where
     wider : (x : ℕ) → TargetBelow g k x → TargetBelow g (suc k) x
@@ -139,7 +139,7 @@ module _ {Bound : ℕ → ℕ → Type 0} (n : ℕ) (g : ℕ → Option ℕ) (bo
 
   insert_sorted : (k b : ℕ) → k < n → g k ≡ some b → (qs : List ℕ) → ((q : ℕ) → Memᴰ q qs → TargetBelow g k q) → Sorted Bound qs → Sorted Bound (insert g k qs)
   unfolding insert
-  insert_sorted k b kn e [] l s = sorted_more (λ q m. absurd (Memᴰ.not_nil m)) sorted_none
+  insert_sorted k b kn e [] l s = sorted_more (λ q m. absurd (Memᴰ.not-nil m)) sorted_none
   insert_sorted k b kn e (p ∷ qs) l (sorted_more up s) =
       go (l p (Memᴰ.head refl)) (insert_sorted k b kn e qs (λ q m. l q (Memᴰ.tail m)) s)
     where

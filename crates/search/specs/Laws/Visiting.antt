@@ -103,7 +103,7 @@ module _ {Bound : ℕ → ℕ → Type 0} (n : ℕ) (g : ℕ → Option ℕ) (bo
 
   came : (vs : List ℕ) (st : Search) → Sorted Bound vs → ((q : ℕ) → Memᴰ q vs → (far q).value ≤ counted (g q)) → Came far st vs (run g far vs st)
   unfolding run
-  came [] st s k = stays refl refl refl (λ q m. absurd (Memᴰ.not_nil m))
+  came [] st s k = stays refl refl refl (λ q m. absurd (Memᴰ.not-nil m))
   came (v ∷ vs) st (sorted_more up s) k =
       go (stops_at (counted (g v)) st.best) refl (came vs (visited v (far v) st) s (λ q m. k q (Memᴰ.tail m)))
     where
