@@ -117,7 +117,7 @@ module _ (list : List ℕ) (fit : Orderly list) (k : ℕ) (one : 1 ≤ k) (withi
       next_jump : (p : ℕ) → p ≡ first_past list k (leg_no list k).from 0 → Jump list k p
       next_jump p e = rw e (first_leaves list k (leg_no list k).from 0)
 
-      go : {q : ℕ} (p : ℕ) → p ≡ first_past list k (leg_no list k).from 0 → Twice jump p q → Jump list k q
+      go : (p : ℕ) {q : ℕ} → p ≡ first_past list k (leg_no list k).from 0 → Twice jump p q → Jump list k q
       go p e to_next = next_jump p e
       go p e (to_second some more) =
           let a = next_jump p e in

@@ -2,7 +2,7 @@
 use Prim.Native.Nat.{ℕ, ◌+◌, ◌-◌, ◌*◌, ◌/◌, ◌≤◌, ◌<◌}
 use native.Mathlib.Omega.{arith}
 use mathlib.Core.Path.{◌≡◌, ap, ◌∙◌}
-use mathlib.Core.List.{List, Memᴰ}
+use mathlib.Core.List.{List}
 use lib.ListN.{length, get_or}
 use Rattle.rules.specs.Words.{things_from}
 use Rattle.rules.specs.Day.{Row, arrival}

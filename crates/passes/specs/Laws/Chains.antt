@@ -1,5 +1,5 @@
 -- Routes over rows whose starts do not fall: a route lies in the later rows, or is the first row alone, or begins with it.
-use Rattle.std.specs.Prelude.{ℕ, ◌≤◌, ◌<◌, ◌≡◌}
+use Rattle.std.specs.Prelude.{◌≤◌, ◌<◌, ◌≡◌}
 use Rattle.std.proofs.Common.{ap, arith}
 use mathlib.Core.List.Memᴰ
 use mathlib.Core.List.{List, [], ◌∷◌, Memᴰ}

@@ -1,11 +1,11 @@
 -- The forward pass knows every route that can be taken, and nothing else.
-use Rattle.std.specs.Prelude.{ℕ, ◌+◌, ◌≤◌, ◌<◌, ◌≡◌, refl, Bool, true, false, cond, ◌&&◌, List, [], ◌∷◌, leb, ltb, length, get_or, set}
+use Rattle.std.specs.Prelude.{ℕ, ◌≤◌, ◌<◌, ◌≡◌, refl, Bool, true, false, cond, ◌&&◌, List, [], ◌∷◌, leb, ltb, length, get_or, set}
 use Rattle.std.proofs.Common.{ap, sym, ◌∙◌, arith, le_refl, le_trans, length-set, get_or-set_same, get_or-set_other, leb-true, leb-false, ltb-true, ltb-false}
 use mathlib.Core.List.Memᴰ
 use Rattle.std.proofs.Math.Decide.{ℕ_discrete}
 use Rattle.rules.specs.Day.{Row, arrival, Sound}
-use Rattle.rules.specs.Routes.{Follows, Route, ride, onto}
-use Rattle.rules.specs.Laws.Good.{Good, good_none, good_more, moves}
+use Rattle.rules.specs.Routes.{Route, ride, onto}
+use Rattle.rules.specs.Laws.Good.{Good, good_more, moves}
 use Rattle.passes.specs.Forward.{nowhere, usable, step, pass}
 use Rattle.passes.specs.Laws.Chains.{rows_day, Uncons, in_tail, alone, leads, uncons, widen, spans, empty_route}
 

@@ -1,16 +1,14 @@
 -- The pass as the code makes it, by the least of two numbers, gives the distances.
-use Rattle.std.specs.Prelude.{ℕ, zero, suc, ◌+◌, ◌*◌, ◌-◌, ◌/◌, ◌≤◌, ◌<◌, min, ◌≡◌, refl, Bool, true, false, cond, ◌&&◌, eqb, leb, ltb, length, get_or, set, replicate}
-use Rattle.std.proofs.Common.{ap, sym, ◌∙◌, subst, arith, length-set, get_or-set_same, get_or-set_other, eqb-true, leb-true, leb-false, ltb-true, ltb-false, eq-eqb, ne_eqb, le-leb, le-ltb, lt-ltb}
+use Rattle.std.specs.Prelude.{ℕ, zero, suc, ◌-◌, ◌≤◌, ◌<◌, min, ◌≡◌, refl, Bool, true, false, cond, ◌&&◌, eqb, leb, ltb, length, get_or, set, replicate}
+use Rattle.std.proofs.Common.{ap, sym, ◌∙◌, arith, length-set, eqb-true, leb-true, ltb-true, ltb-false, le-leb}
 use mathlib.Core.List.{List, [], ◌∷◌, ◌++◌, Memᴰ}
-use Rattle.std.proofs.Math.Decide.{ℕ_discrete}
-use Rattle.std.proofs.lemmas.List.{length-replicate, get_or-replicate, set-append_left, set-get_or}
-use Rattle.std.proofs.Math.ListN.{get_or-append, get_or-eq_default}
-use Rattle.std.proofs.lemmas.Bool.{eqb-false, lt-leb}
+use Rattle.std.proofs.lemmas.List.{length-replicate, set-append_left, set-get_or}
+use Rattle.std.proofs.Math.ListN.{get_or-append}
 use Rattle.rules.specs.Clock.{horizon}
-use Rattle.rules.specs.Day.{Row, arrival, Sound}
+use Rattle.rules.specs.Day.{Row, arrival}
 use Rattle.rules.specs.Routes.{Dist, in_numbers, Earliest}
 use Rattle.rules.specs.Lent.{Stands}
-use Rattle.rules.specs.Laws.Good.{Good, good_none, good_more}
+use Rattle.rules.specs.Laws.Good.{Good, good_more}
 use Rattle.passes.specs.Legs.{legs_of}
 use Rattle.passes.specs.Forward.{nowhere, usable, step, pass, init, offered, relaxed, passed}
 use Rattle.passes.specs.Laws.Chains.{rows_day}

@@ -1,5 +1,5 @@
 -- A leg is read, and legs are linked, in one way.
-use Rattle.std.specs.Prelude.{ℕ, ◌≤◌, ◌<◌, ◌≡◌, List, length, get_or}
+use Rattle.std.specs.Prelude.{ℕ, ◌≤◌, ◌<◌, ◌≡◌, List, get_or}
 use Rattle.std.proofs.Common.{sym, ◌∙◌, arith, ext_get_or}
 use Rattle.std.proofs.Math.Decide.{dec_le}
 use Rattle.passes.specs.declared.legs.Leg as declared

@@ -4,7 +4,7 @@ use Rattle.std.proofs.Common.{suc-mul, add-one, ap, ◌∙◌, append_assoc, app
 use Rattle.std.proofs.Math.Nat.{mul-le-mul_right, zero-mul}
 use native.Mathlib.Omega.{arith}
 use Rattle.std.proofs.Math.Decide.{dec_lt}
-use Rattle.std.specs.Prelude.{◌≡◌, refl, List, [], ◌++◌, get_or, drop, take}
+use Rattle.std.specs.Prelude.{◌≡◌, List, ◌++◌, get_or, drop, take}
 use Rattle.std.proofs.Math.Path.{sym}
 use Rattle.std.proofs.Math.ListN.{length, length-append, get_or-append}
 use Rattle.passes.specs.Forward.{stretches}
