@@ -49,7 +49,7 @@ scratch_wiped old new l e =
 -- rows between n stops are rows between 256
 pub ready_for_all : {n A W : ℕ} {rows : List ℕ} → Ready n A W rows → Ready most_stops A W rows
 ready_for_all r =
-    record { good = good_for_more r.most_stops r.good; some_stop = omega arith; most_stops_lem = omega arith; few = r.few; in_order = r.in_order; in_day = r.in_day }
+    record { good = good_for_more r.few_stops r.good; some_stop = omega arith; few_stops = omega arith; few = r.few; in_order = r.in_order; in_day = r.in_day }
 
 -- the links are those of the part of the room that holds the legs
 pub laid_linked : {A W end : ℕ} {rs : List Row} {legs next follow legs' head' next' follow' : List ℕ} → LegsLaid A W rs legs next follow end legs' head' next' follow' → (part : ℕ)
@@ -107,7 +107,7 @@ module _ (n A W : ℕ) (rows : List ℕ) (r : Ready n A W rows) (old legs : List
     part_good = rw part_read (legs_good n A W (rows_of rows) r.good)
 
     pub part_orderly : Orderly (take end legs)
-    part_orderly = record { few = omega (arith, legs_few, length-take end legs); good = good_for_more r.most_stops part_good }
+    part_orderly = record { few = omega (arith, legs_few, length-take end legs); good = good_for_more r.few_stops part_good }
 
     -- the sweep to a target fills the first n places with distances
     pub sweep_fills : (v : ℕ) (out out' : List ℕ) → n ≤ length out → out' ≡ distances_to v (legs_in (take end legs)) n 0 ++ drop n out

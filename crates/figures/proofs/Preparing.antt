@@ -38,7 +38,7 @@ ready q c =
     record {
       good = rw (rows_of_numbers (asker's_rows q)) (faultless_good q.n (asker's_rows q) (none_if_no_least (Faulty q.n (asker's_rows q)) c.1.1.1.1.1.0));
       some_stop = stops (dec_le 1 q.n);
-      most_stops_lem = most (dec_le q.n most_stops);
+      few_stops = most (dec_le q.n most_stops);
       few = omega (arith, own_few q c.1.0, length_numbers (asker's_rows q));
       in_order = order (dec_le q.A q.W);
       in_day = day (dec_le q.W horizon);

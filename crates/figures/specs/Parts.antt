@@ -43,7 +43,7 @@ last_checks rs n A W t =
 pub record Ready (n A W : ℕ) (rows : List ℕ) : Type 0 where
   pub good : Good n (rows_of rows)
   pub some_stop : 1 ≤ n
-  pub most_stops_lem : n ≤ most_stops
+  pub few_stops : n ≤ most_stops
   pub few : length rows / row_width ≤ most_rows
   pub in_order : A ≤ W
   pub in_day : W ≤ horizon

@@ -4,7 +4,8 @@ use Rattle.std.proofs.Common.{ap, sym, ◌∙◌}
 use Rattle.clock.specs.declared.Length.{Length}
 use Rattle.rules.specs.Words.{GreatestIfAny}
 use Rattle.rules.specs.Day.{Ask}
-use Rattle.rules.specs.Table.{Check, office_table, Clear, Refuses}
+use Rattle.rules.specs.Lent.{scratch_places}
+use Rattle.rules.specs.Table.{Check, office_table, Clear, Refuses, table}
 use Rattle.rules.specs.Laws.Single.{greatest_single, stands_single, fills_single, wiped_single, stretch_single, shown_single, none_single, shown_or_none, clear_or_refused, OnePlace, refusal_single, table_one_place, office_one_place}
 use Rattle.figures.specs.declared.answers.Filled.{Filled}
 use Rattle.figures.specs.declared.answers.Filled.TheVariants as filled
@@ -14,7 +15,7 @@ use Rattle.figures.specs.declared.answers.Answer.{Answer}
 use Rattle.figures.specs.declared.answers.Answer.TheVariants as answer
 use Rattle.figures.specs.declared.answers.Office.{Office}
 use Rattle.figures.specs.declared.answers.Office.TheVariants as office
-use Rattle.figures.specs.Promises.{Fulfils, FulfilsEccentricity, FulfilsSearch, DistancesFromPromise, DistancesToPromise, TablePromise, ForwardEccentricityPromise, BackwardEccentricityPromise, DiameterPromise, PivotDiameterPromise, OfficePromise}
+use Rattle.figures.specs.Promises.{takes, room, Fulfils, FulfilsEccentricity, FulfilsSearch, DistancesFromPromise, DistancesToPromise, TablePromise, ForwardEccentricityPromise, BackwardEccentricityPromise, DiameterPromise, PivotDiameterPromise, OfficePromise}
 
 length_same : (x y : Length) → x.0 ≡ y.0 → x ≡ y
 length_same x y e = ap (λ (s : ℕ). record { 0 = s }) e
@@ -67,37 +68,37 @@ module _ (q : Ask) where
   pub distances_from_unique : (source : ℕ) (out : List ℕ) (r r' : Filled) (o o' : List ℕ)
       → DistancesFromPromise q source out r o → DistancesFromPromise q source out r' o' → (r ≡ r') × (o ≡ o')
   unfolding DistancesFromPromise
-  distances_from_unique source out r r' o o' = fulfils_unique _ (table_one_place q _) (fills_single (λ v x y l. stands_single)) as_before r r'
+  distances_from_unique source out r r' o o' = fulfils_unique (table q (takes (source ∷ []) [] (room out q.n ∷ []))) (table_one_place q (takes (source ∷ []) [] (room out q.n ∷ []))) (fills_single (λ v x y l. stands_single)) as_before r r'
 
   pub table_unique : (out : List ℕ) (r r' : Filled) (o o' : List ℕ) → TablePromise q out r o → TablePromise q out r' o' → (r ≡ r') × (o ≡ o')
   unfolding TablePromise
-  table_unique out r r' o o' = fulfils_unique _ (table_one_place q _) (fills_single (stretch_single q)) as_before r r'
+  table_unique out r r' o o' = fulfils_unique (table q (takes [] [] (room out (q.n * q.n) ∷ []))) (table_one_place q (takes [] [] (room out (q.n * q.n) ∷ []))) (fills_single (stretch_single q)) as_before r r'
 
   pub forward_unique : (source : ℕ) (r r' : Eccentricity) → ForwardEccentricityPromise q source r → ForwardEccentricityPromise q source r' → r ≡ r'
   unfolding ForwardEccentricityPromise
-  forward_unique source r r' h g = (eccentricity_unique _ (table_one_place q _) (λ x y. x) (λ x y. x) _ r r' h g).0
+  forward_unique source r r' h g = (eccentricity_unique (table q (takes (source ∷ []) [] [])) (table_one_place q (takes (source ∷ []) [] [])) (λ x y. x) (λ x y. x) _ r r' h g).0
 
   pub distances_to_unique : (target : ℕ) (out scratch : List ℕ) (r r' : Filled) (o o' s s' : List ℕ)
       → DistancesToPromise q target out scratch r o s → DistancesToPromise q target out scratch r' o' s' → (r ≡ r') × ((o ≡ o') × (s ≡ s'))
   unfolding DistancesToPromise
   distances_to_unique target out scratch r r' o o' s s' =
-      fulfils_unique _ (table_one_place q _)
+      fulfils_unique (table q (takes (target ∷ []) [] (room out q.n ∷ room scratch scratch_places ∷ []))) (table_one_place q (takes (target ∷ []) [] (room out q.n ∷ room scratch scratch_places ∷ [])))
       (λ h g. (fills_single (λ v x y l. stands_single) h.0 g.0, wiped_single h.1 g.1))
       (λ h g. (as_before h.0 g.0, as_before h.1 g.1)) r r'
 
   pub backward_unique : (target : ℕ) (scratch : List ℕ) (r r' : Eccentricity) (s s' : List ℕ)
       → BackwardEccentricityPromise q target scratch r s → BackwardEccentricityPromise q target scratch r' s' → (r ≡ r') × (s ≡ s')
   unfolding BackwardEccentricityPromise
-  backward_unique target scratch r r' s s' = eccentricity_unique _ (table_one_place q _) wiped_single as_before _ r r'
+  backward_unique target scratch r r' s s' = eccentricity_unique (table q (takes (target ∷ []) [] (room scratch scratch_places ∷ []))) (table_one_place q (takes (target ∷ []) [] (room scratch scratch_places ∷ []))) wiped_single as_before _ r r'
 
   pub diameter_unique : (scratch : List ℕ) (r r' : Answer) (s s' : List ℕ) → DiameterPromise q scratch r s → DiameterPromise q scratch r' s' → (r ≡ r') × (s ≡ s')
   unfolding DiameterPromise
-  diameter_unique scratch r r' s s' = search_unique _ (table_one_place q _) wiped_single as_before _ _ (λ v b c. greatest_single) r r'
+  diameter_unique scratch r r' s s' = search_unique (table q (takes [] [] (room scratch scratch_places ∷ []))) (table_one_place q (takes [] [] (room scratch scratch_places ∷ []))) wiped_single as_before _ _ (λ v b c. greatest_single) r r'
 
   pub pivot_diameter_unique : (pivots scratch : List ℕ) (r r' : Answer) (s s' : List ℕ)
       → PivotDiameterPromise q pivots scratch r s → PivotDiameterPromise q pivots scratch r' s' → (r ≡ r') × (s ≡ s')
   unfolding PivotDiameterPromise
-  pivot_diameter_unique pivots scratch r r' s s' = search_unique _ (table_one_place q _) wiped_single as_before _ _ (λ v b c. greatest_single) r r'
+  pivot_diameter_unique pivots scratch r r' s s' = search_unique (table q (takes [] pivots (room scratch scratch_places ∷ []))) (table_one_place q (takes [] pivots (room scratch scratch_places ∷ []))) wiped_single as_before _ _ (λ v b c. greatest_single) r r'
 
 pub office_unique : (list : List ℕ) (n : ℕ) (r r' : Office) → OfficePromise list n r → OfficePromise list n r' → r ≡ r'
 unfolding OfficePromise

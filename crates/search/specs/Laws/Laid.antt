@@ -3,7 +3,7 @@ use Rattle.std.specs.Prelude.{ℕ, ◌+◌, ◌*◌, ◌/◌, ◌%◌, ◌≤◌
 use Rattle.std.proofs.Common.{ap, sym, ◌∙◌, arith, ext_get_or}
 use Rattle.std.proofs.Math.Decide.{dec_lt}
 use Rattle.rules.specs.Pivots.{Pivot}
-use Rattle.search.specs.Pivots.{pivot_number, pivot_places, PivotsLaid}
+use Rattle.search.specs.Pivots.{pivot_places, PivotsLaid}
 use Rattle.search.specs.Laws.Pivoted.{pivot_at_lem}
 
 pub pivots_laid_single : (n : ℕ) (pivots : List Pivot) (numbers : Pivot → List ℕ) (old new new' : List ℕ) → n ≤ pivot_places

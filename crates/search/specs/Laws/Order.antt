@@ -84,6 +84,7 @@ insert_keeps g k (p ∷ qs) q m = go (ahead (g p) (g k)) m (λ x. insert_keeps g
     go true (Memᴰ.head e) r = Memᴰ.head e
     go true (Memᴰ.tail x) r = Memᴰ.tail (r x)
     go false x r = Memᴰ.tail x
+insert_keeps g k [] q m = elim m [ ]
 
 insert_length : (g : ℕ → Option ℕ) (k : ℕ) (qs : List ℕ) → length (insert g k qs) ≡ suc (length qs)
 unfolding insert

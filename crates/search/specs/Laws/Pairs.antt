@@ -153,6 +153,7 @@ any_yes f (q ∷ ps) p (Memᴰ.tail m) h = rw (any_yes f ps p m h) (or-true (f q
     or-true : (b : Bool) → b || true ≡ true
     or-true true = refl
     or-true false = refl
+any_yes f [] p x'' h = elim x'' [ ]
 
 of_any : (f : Pivot → Bool) (ps : List Pivot) → any_of f ps ≡ true → (p : Pivot) × Memᴰ p ps × (f p ≡ true)
 unfolding any_of

@@ -43,7 +43,7 @@ pivot_at_lem [] i h = absurd (omega arith)
 pivot_at_lem (p ∷ ps) zero h = (p, at_first)
 pivot_at_lem (p ∷ ps) (suc i) h = let t = pivot_at_lem ps i (omega arith) in (t.0, at_later t.1)
 
-pub at_of : {pivots : List Pivot} {p : Pivot} → Memᴰ p pivots → (i : ℕ) × At pivots i p
+pub at_of : {p : Pivot} {pivots : List Pivot} → Memᴰ p pivots → (i : ℕ) × At pivots i p
 at_of (Memᴰ.head {xs = ys} e) = (0, rw e at_first)
 at_of (Memᴰ.tail m) = let t = at_of m in (suc t.0, at_later t.1)
 

@@ -1,0 +1,23 @@
+-- The first checks, then the answer over own rows.
+use Prim.Native.Nat.{◌*◌, ◌-◌}
+use native.Mathlib.Omega.{arith}
+use mathlib.Core.Path.{◌≡◌, refl}
+use mathlib.Core.List.{[], ◌∷◌}
+use Rattle.rules.specs.Lent.{Fills}
+use Rattle.figures.specs.Parts.{Stretched}
+use Rattle.figures.specs.Promises.{ask, room, takes, TablePromise}
+use Rattle.figures.proofs.Preparing.{told_rows, told_unprepared, part_rows}
+use Rattle.figures.proofs.Answering.{then_fulfils}
+use Rattle.figures.proofs.forward.table.Goals as goal
+
+pub returns-in-Refused : goal.returns-in-Refused
+unfolding TablePromise
+returns-in-Refused c =
+    let args = c.args in
+    (told_unprepared (ask args.list.now args.n args.asker args.a args.w) (takes [] [] (room args.out.now (args.n * args.n) ∷ [])) _ _ _ c.in-Refused.number c.in-Refused.place c.prepare-p.ensures c.in-Refused.is, refl)
+
+pub returns-in-Rows : goal.returns-in-Rows
+unfolding TablePromise
+returns-in-Rows c =
+    let args = c.args in
+    let t = told_rows (ask args.list.now args.n args.asker args.a args.w) _ _ _ c.in-Rows.k c.prepare-p.ensures c.in-Rows.is in then_fulfils (ask args.list.now args.n args.asker args.a args.w) (takes [] [] (room args.out.now (args.n * args.n) ∷ [])) _ (part_rows (ask args.list.now args.n args.asker args.a args.w) _ c.in-Rows.k _ t.0 t.1 (c.in-Rows.k * 5 - 0) (omega arith)) t.0 (λ rs. Fills (args.n * args.n) (Stretched rs args.n args.a args.w) args.out.now c.own_table.new.out) (c.own_table.new.out ≡ args.out.now) c.own_table.result c.own_table.ensures

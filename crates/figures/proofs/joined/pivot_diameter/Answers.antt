@@ -1,0 +1,25 @@
+-- The first checks, then the answer over own rows.
+use Prim.Native.Nat.{◌*◌, ◌-◌}
+use native.Mathlib.Omega.{arith}
+use mathlib.Core.Path.{◌≡◌, refl}
+use mathlib.Core.List.{[], ◌∷◌}
+use Rattle.rules.specs.Pivots.{pivots_of, LatestUnder}
+use Rattle.rules.specs.Lent.{scratch_places, Wiped}
+use Rattle.passes.specs.Laws.Chains.{rows_day}
+use Rattle.search.specs.Laws.Pairs.{ReachedJoined}
+use Rattle.figures.specs.Promises.{ask, room, takes, PivotDiameterPromise}
+use Rattle.figures.proofs.Preparing.{told_rows, told_unprepared, part_rows}
+use Rattle.figures.proofs.Answering.{then_search}
+use Rattle.figures.proofs.joined.pivot_diameter.Goals as goal
+
+pub returns-in-Refused : goal.returns-in-Refused
+unfolding PivotDiameterPromise
+returns-in-Refused c =
+    let args = c.args in
+    (told_unprepared (ask args.list.now args.n args.asker args.a args.w) (takes [] args.pivots.now (room args.scratch.now scratch_places ∷ [])) _ _ _ c.in-Refused.number c.in-Refused.place c.prepare-p.ensures c.in-Refused.is, refl)
+
+pub returns-in-Rows : goal.returns-in-Rows
+unfolding PivotDiameterPromise
+returns-in-Rows c =
+    let args = c.args in
+    let t = told_rows (ask args.list.now args.n args.asker args.a args.w) _ _ _ c.in-Rows.k c.prepare-p.ensures c.in-Rows.is in then_search (ask args.list.now args.n args.asker args.a args.w) (takes [] args.pivots.now (room args.scratch.now scratch_places ∷ [])) _ (part_rows (ask args.list.now args.n args.asker args.a args.w) _ c.in-Rows.k _ t.0 t.1 (c.in-Rows.k * 5 - 0) (omega arith)) t.0 (λ rs. ReachedJoined rs args.a args.w args.n (pivots_of args.pivots.now)) (λ rs. LatestUnder (rows_day rs) args.a args.w (pivots_of args.pivots.now)) (Wiped args.scratch.now c.own_pivot_diameter.new.scratch) (c.own_pivot_diameter.new.scratch ≡ args.scratch.now) c.own_pivot_diameter.result c.own_pivot_diameter.ensures

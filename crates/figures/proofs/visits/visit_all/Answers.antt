@@ -1,0 +1,30 @@
+-- The loop: the search with the turns left, from here, ends as the search from the start.
+use Prim.Native.Nat.{◌-◌}
+use mathlib.Core.Path.{sym, ◌∙◌}
+use Rattle.passes.specs.Legs.{legs_in}
+use Rattle.search.specs.Laws.Searched.{going_begun, going_visit, turns_over, targets_over, stops_there}
+use Rattle.figures.specs.Answered.{far_in}
+use Rattle.figures.proofs.visits.visit_all.Goals as goal
+
+pub loop-k-init : goal.loop-k-init
+loop-k-init c =
+    let args = c.args in
+    rw (c.begun-st.ensures, c.before_all-last.ensures) (going_begun (far_in (legs_in args.legs.now) args.n) args.bounds.now args.n)
+
+pub returns-in_default : goal.returns-in_default
+returns-in_default c =
+    let loop = c.loop-k in
+    sym (targets_over loop.invariant c.loop-k-test.true (sym c.next_target.ensures ∙ c.in_default.is))
+
+pub returns-then-stops_at : goal.returns-then-stops_at
+returns-then-stops_at c =
+    let loop = c.loop-k in
+    sym (stops_there loop.invariant c.loop-k-test.true c.in-At.p (sym c.next_target.ensures ∙ c.in-At.is) (sym c.stops_at.ensures ∙ c.if-stops_at.true))
+
+pub loop-k-preserved : goal.loop-k-preserved
+loop-k-preserved c =
+    let loop = c.loop-k in
+    rw (c.visit-st.ensures, c.far_to-far.ensures) (going_visit loop.invariant c.loop-k-test.true c.in-At.p (sym c.next_target.ensures ∙ c.in-At.is) (sym c.stops_at.ensures ∙ c.if-stops_at.false))
+
+pub returns : goal.returns
+returns c = sym (turns_over c.loop-k.invariant c.loop-k-test.false)
