@@ -1,14 +1,13 @@
 -- The search among joined pairs: what the pivots' numbers tell, and how it ends.
-use Prim.Native.Nat.{ℕ, zero, suc, ◌+◌, ◌≤◌, ◌<◌}
+use Prim.Native.Nat.{ℕ, zero, suc, ◌+◌, ◌<◌}
 use native.Mathlib.Omega.{arith}
-use mathlib.Core.Path.{◌≡◌, refl, ap, sym, ◌∙◌, subst}
+use mathlib.Core.Path.{◌≡◌, refl, ap, sym, subst}
 use mathlib.Core.Bool.{cond}
-use mathlib.Core.List.{List, [], ◌∷◌, ◌++◌, append-nil, Memᴰ}
-use lib.ListN.{length, get_or, get_or-append}
+use mathlib.Core.List.{List, [], ◌++◌, append-nil}
+use lib.ListN.{length, get_or-append}
 use Rattle.rules.specs.Words.{things_from}
 use Rattle.rules.specs.Day.{Row, rows_of}
-use Rattle.rules.specs.Pivots.{Pivot, pivots_of, LatestUnder}
-use Rattle.rules.specs.Laws.Joined.{Sits}
+use Rattle.rules.specs.Pivots.{pivots_of, LatestUnder}
 use Rattle.passes.specs.Forward.{nowhere}
 use Rattle.passes.specs.Legs.{legs_of}
 use Rattle.passes.specs.Pivots.{onward_pivot, into_pivot}

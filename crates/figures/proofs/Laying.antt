@@ -1,11 +1,11 @@
 -- The legs of an ask, laid out in a room: how many, how they are read, and what a pass over them gives.
-use Prim.Native.Nat.{ℕ, ◌+◌, ◌*◌, ◌/◌, ◌≤◌, ◌<◌}
+use Prim.Native.Nat.{ℕ, ◌*◌, ◌≤◌, ◌<◌}
 use native.Mathlib.Omega.{arith}
 use mathlib.Core.Path.{◌≡◌, refl, sym, ap, ◌∙◌, subst}
 use mathlib.Core.List.{List, ◌++◌}
 use lib.ListN.{length, get_or, take, drop, replicate, length-take, length-replicate, get_or-replicate}
 use lib.Seq.{take_at}
-use Rattle.rules.specs.Day.{most_stops, most_rows, row_width, Row, rows_of}
+use Rattle.rules.specs.Day.{most_stops, most_rows, Row, rows_of}
 use Rattle.rules.specs.Diameter.{LatestEntry}
 use Rattle.rules.specs.Lent.{Fills, scratch_places, Wiped, Stands, Copied}
 use Rattle.rules.specs.Laws.Good.{Good, good_sound}

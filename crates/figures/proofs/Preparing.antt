@@ -1,5 +1,5 @@
 -- What the first checks leave, and how the rest of the table follows them.
-use Prim.Native.Nat.{ℕ, ◌*◌, ◌/◌, ◌%◌, ◌≤◌, ◌<◌}
+use Prim.Native.Nat.{ℕ, ◌*◌, ◌%◌, ◌≤◌}
 use native.Mathlib.Omega.{arith}
 use native.Mathlib.Decide.{ℕ_discrete, dec_le}
 use mathlib.Core.Path.{◌≡◌, refl, sym, ap, ◌∙◌, subst}
@@ -7,7 +7,7 @@ use mathlib.Core.Logic.{inl, inr}
 use mathlib.Core.List.{List}
 use lib.ListN.{length, take}
 use Rattle.rules.specs.Clock.{horizon}
-use Rattle.rules.specs.Day.{most_stops, most_rows, row_width, Row, rows_of, Faulty, Ask, asker's_rows}
+use Rattle.rules.specs.Day.{most_stops, most_rows, row_width, rows_of, Faulty, Ask, asker's_rows}
 use Rattle.rules.specs.Struck.{numbers, numbers_of}
 use Rattle.rules.specs.Lent.{Copied}
 use Rattle.rules.specs.Table.{Takes, check_1, check_2, table, Clear, Refuses}

@@ -8,6 +8,7 @@ use Rattle.clock.specs.declared.Length.{Length}
 use Rattle.rules.specs.Words.{Greatest}
 use Rattle.rules.specs.Day.{rows_of, Ask, asker's_day}
 use Rattle.rules.specs.Routes.{Compatible}
+use Rattle.rules.specs.Eccentricity.{Forward, Backward}
 use Rattle.rules.specs.Diameter.{Shown, NoneShown}
 use Rattle.rules.specs.Pivots.{pivots_of, Joined}
 use Rattle.rules.specs.Table.{Check, table, office_table, Refuses}
@@ -199,7 +200,7 @@ demand_1 =
           record {
             some_outcome = distances_from_exists q source out;
             one_outcome = distances_from_unique q source out;
-            refuses_exactly = λ r after. filled_refused _ (table_one_place q _) _ _ r;
+            refuses_exactly = λ r after. filled_refused (table q (takes (source ∷ []) [] (room out q.n ∷ []))) (table_one_place q (takes (source ∷ []) [] (room out q.n ∷ []))) (Fills q.n (DistanceOf q source) out after) (after ≡ out) r;
             refusal_writes_nothing = λ number place after h. h.1;
           };
       distances_to_lem =
@@ -209,7 +210,7 @@ demand_1 =
             one_outcome =
                 λ r r' after after' h g.
                 let e = distances_to_unique q target out scratch r r' after.0 after'.0 after.1 after'.1 h g in (e.0, Σ_path e.1.0 e.1.1);
-            refuses_exactly = λ r after. filled_refused _ (table_one_place q _) _ _ r;
+            refuses_exactly = λ r after. filled_refused (table q (takes (target ∷ []) [] (room out q.n ∷ room scratch scratch_places ∷ []))) (table_one_place q (takes (target ∷ []) [] (room out q.n ∷ room scratch scratch_places ∷ []))) (Fills q.n (λ u. DistanceOf q u target) out after.0 × Wiped scratch after.1) ((after.0 ≡ out) × (after.1 ≡ scratch)) r;
             refusal_writes_nothing = λ number place after h. Σ_path h.1.0 h.1.1;
           };
       whole_table_lem =
@@ -217,7 +218,7 @@ demand_1 =
           record {
             some_outcome = table_exists q out;
             one_outcome = table_unique q out;
-            refuses_exactly = λ r after. filled_refused _ (table_one_place q _) _ _ r;
+            refuses_exactly = λ r after. filled_refused (table q (takes [] [] (room out (q.n * q.n) ∷ []))) (table_one_place q (takes [] [] (room out (q.n * q.n) ∷ []))) (Fills (q.n * q.n) (TableOf q) out after) (after ≡ out) r;
             refusal_writes_nothing = λ number place after h. h.1;
           };
       forward_eccentricity_lem =
@@ -225,7 +226,7 @@ demand_1 =
           record {
             some_outcome = let e = forward_exists q source in (e.0, tt, e.1);
             one_outcome = λ r r' after after' h g. (forward_unique q source r r' h g, refl);
-            refuses_exactly = λ r after. eccentricity_refused _ (table_one_place q _) _ _ _ r;
+            refuses_exactly = λ r after. eccentricity_refused (table q (takes (source ∷ []) [] [])) (table_one_place q (takes (source ∷ []) [] [])) (Unit {0}) (Unit {0}) (Forward (Pairs q) source) r;
             refusal_writes_nothing = λ number place after h. refl;
           };
       backward_eccentricity_lem =
@@ -233,7 +234,7 @@ demand_1 =
           record {
             some_outcome = backward_exists q target scratch;
             one_outcome = backward_unique q target scratch;
-            refuses_exactly = λ r after. eccentricity_refused _ (table_one_place q _) _ _ _ r;
+            refuses_exactly = λ r after. eccentricity_refused (table q (takes (target ∷ []) [] (room scratch scratch_places ∷ []))) (table_one_place q (takes (target ∷ []) [] (room scratch scratch_places ∷ []))) (Wiped scratch after) (after ≡ scratch) (Backward (Pairs q) target) r;
             refusal_writes_nothing = λ number place after h. h.1;
           };
       diameter =
@@ -241,7 +242,7 @@ demand_1 =
           record {
             some_outcome = diameter_exists q scratch;
             one_outcome = diameter_unique q scratch;
-            refuses_exactly = λ r after. search_refused _ (table_one_place q _) _ _ _ _ r;
+            refuses_exactly = λ r after. search_refused (table q (takes [] [] (room scratch scratch_places ∷ []))) (table_one_place q (takes [] [] (room scratch scratch_places ∷ []))) (Wiped scratch after) (after ≡ scratch) (Pairs q) (Bounds q) r;
             refusal_writes_nothing = λ number place after h. h.1;
           };
       pivot_diameter_lem =
@@ -249,7 +250,7 @@ demand_1 =
           record {
             some_outcome = pivot_diameter_exists q pivots scratch;
             one_outcome = pivot_diameter_unique q pivots scratch;
-            refuses_exactly = λ r after. search_refused _ (table_one_place q _) _ _ _ _ r;
+            refuses_exactly = λ r after. search_refused (table q (takes [] pivots (room scratch scratch_places ∷ []))) (table_one_place q (takes [] pivots (room scratch scratch_places ∷ []))) (Wiped scratch after) (after ≡ scratch) (JoinedPairs q pivots) (PivotBounds q pivots) r;
             refusal_writes_nothing = λ number place after h. h.1;
           };
       office_check_lem =
@@ -266,9 +267,9 @@ pub demand_2 : Demand2
 unfolding DistancesFromPromise DistancesToPromise TablePromise ForwardEccentricityPromise BackwardEccentricityPromise DiameterPromise PivotDiameterPromise
 demand_2 =
     record {
-      distances_from_lem = λ q source out r out'. filled_written _ _ _ r;
-      distances_to_lem = λ q target out scratch r after. filled_written _ _ _ r;
-      whole_table_lem = λ q out r out'. filled_written _ _ _ r;
+      distances_from_lem = λ q source out r out'. filled_written (table q (takes (source ∷ []) [] (room out q.n ∷ []))) (Fills q.n (DistanceOf q source) out out') (out' ≡ out) r;
+      distances_to_lem = λ q target out scratch r after. filled_written (table q (takes (target ∷ []) [] (room out q.n ∷ room scratch scratch_places ∷ []))) (Fills q.n (λ u. DistanceOf q u target) out after.0 × Wiped scratch after.1) ((after.0 ≡ out) × (after.1 ≡ scratch)) r;
+      whole_table_lem = λ q out r out'. filled_written (table q (takes [] [] (room out (q.n * q.n) ∷ []))) (Fills (q.n * q.n) (TableOf q) out out') (out' ≡ out) r;
       forward_eccentricity_lem =
           λ q source r after h answered.
           record {
@@ -281,7 +282,7 @@ demand_2 =
               greatest = λ d e. (subst (λ (x : Eccentricity). BackwardEccentricityPromise q target scratch x scratch') e h).1;
               none = backward_none q target scratch r scratch' h answered;
             },
-            eccentricity_written _ _ _ _ r h answered,
+            eccentricity_written (table q (takes (target ∷ []) [] (room scratch scratch_places ∷ []))) (Wiped scratch scratch') (scratch' ≡ scratch) (Backward (Pairs q) target) r h answered,
           );
       diameter =
           λ q scratch r scratch' h answered. (
@@ -290,7 +291,7 @@ demand_2 =
               none = diameter_none q scratch r scratch' h answered;
               none_shown = λ visits e. (subst (λ (x : Answer). DiameterPromise q scratch x scratch') e h).1;
             },
-            search_written _ _ _ _ _ r h answered,
+            search_written (table q (takes [] [] (room scratch scratch_places ∷ []))) (Wiped scratch scratch') (scratch' ≡ scratch) (Pairs q) (Bounds q) r h answered,
           );
       pivot_diameter_lem =
           λ q pivots scratch r scratch' h answered. (
@@ -299,7 +300,7 @@ demand_2 =
               none = pivot_diameter_none q pivots scratch r scratch' h answered;
               none_shown = λ visits e. (subst (λ (x : Answer). PivotDiameterPromise q pivots scratch x scratch') e h).1;
             },
-            search_written _ _ _ _ _ r h answered,
+            search_written (table q (takes [] pivots (room scratch scratch_places ∷ []))) (Wiped scratch scratch') (scratch' ≡ scratch) (JoinedPairs q pivots) (PivotBounds q pivots) r h answered,
           );
       office_check_lem = λ list n r after. office_rows_lem list n r;
     }

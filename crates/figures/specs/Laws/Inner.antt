@@ -1,5 +1,5 @@
 -- The promises of functions that serve other modules of the crate leave one outcome too.
-use Rattle.std.specs.Prelude.{ℕ, ◌*◌, ◌≡◌, refl, List, [], ◌∷◌, take}
+use Rattle.std.specs.Prelude.{ℕ, ◌*◌, ◌≡◌, List, [], ◌∷◌, take}
 use Rattle.std.proofs.Common.{ap, sym, ◌∙◌, subst, inl, inr}
 use Rattle.rules.specs.Day.{Row, Ask}
 use Rattle.rules.specs.Pivots.{pivots_of}

@@ -1,5 +1,5 @@
 -- A foreign row changes nothing: two fit lists with the same rows of the asker have the same outcomes.
-use Rattle.std.specs.Prelude.{ℕ, ◌+◌, ◌*◌, ◌<◌, ◌≡◌, ◌↔◌}
+use Rattle.std.specs.Prelude.{ℕ, ◌*◌, ◌≡◌, ◌↔◌}
 use Rattle.std.proofs.Common.{subst}
 use mathlib.Core.List.{List, [], ◌∷◌}
 use Rattle.std.proofs.Math.Option.{Option, none, some}

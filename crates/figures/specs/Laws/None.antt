@@ -1,18 +1,19 @@
 -- An answer that is no refusal is none exactly if there is nothing to tell: no route between different stops, no pair joined.
-use Rattle.std.specs.Prelude.{ℕ, ◌≡◌, refl, ◌≢◌, ◌↔◌, List}
+use Rattle.std.specs.Prelude.{ℕ, ◌≡◌, refl, ◌≢◌, ◌↔◌, List, [], ◌∷◌}
 use Rattle.std.proofs.Common.{arith}
 use Rattle.rules.specs.Words.{GreatestIfAny}
 use Rattle.rules.specs.Day.{Ask, asker's_day}
 use Rattle.rules.specs.Routes.{Compatible}
 use Rattle.rules.specs.Pivots.{pivots_of, Joined}
-use Rattle.rules.specs.Table.{Check, Clear}
-use Rattle.rules.specs.Figures.{Pairs}
+use Rattle.rules.specs.Lent.{scratch_places, Wiped}
+use Rattle.rules.specs.Table.{Check, Clear, table}
+use Rattle.rules.specs.Figures.{Pairs, Bounds, JoinedPairs, PivotBounds}
 use Rattle.rules.specs.Laws.Routed.{counted_has_route, uncounted_has_no_route, uncounted_unjoined}
 use Rattle.figures.specs.declared.answers.Eccentricity.{Eccentricity}
 use Rattle.figures.specs.declared.answers.Eccentricity.TheVariants as eccentricity
 use Rattle.figures.specs.declared.answers.Answer.{Answer}
 use Rattle.figures.specs.declared.answers.Answer.TheVariants as answer
-use Rattle.figures.specs.Promises.{FulfilsEccentricity, FulfilsSearch, ForwardEccentricityPromise, BackwardEccentricityPromise, DiameterPromise, PivotDiameterPromise}
+use Rattle.figures.specs.Promises.{takes, room, FulfilsEccentricity, FulfilsSearch, ForwardEccentricityPromise, BackwardEccentricityPromise, DiameterPromise, PivotDiameterPromise}
 
 -- Over any pairs that count, where `There` says that there is something to tell: whatever counts is there, and where nothing
 -- counts, nothing is there.
@@ -40,27 +41,29 @@ module _ (q : Ask) where
       → (r ≡ eccentricity.Nothing) ↔ ((v : ℕ) → (source ≢ v) × Compatible (asker's_day q) q.A q.W source v → ⊥)
   unfolding ForwardEccentricityPromise
   forward_none source =
-      eccentricity_none _ _ _ (Pairs q source) (λ v d p. (p.differ, counted_has_route q p))
-      (λ clear v none r. uncounted_has_no_route q _ clear source v r.0 none r.1)
+      eccentricity_none (table q (takes (source ∷ []) [] [])) (Unit {0}) (Unit {0}) (Pairs q source) (λ v d p. (p.differ, counted_has_route q p))
+      (λ clear v none r. uncounted_has_no_route q (takes (source ∷ []) [] []) clear source v r.0 none r.1)
 
   -- the backward eccentricity, exactly if the target is reached from no other stop
   pub backward_none : (target : ℕ) (scratch : List ℕ) (r : Eccentricity) (scratch' : List ℕ) → BackwardEccentricityPromise q target scratch r scratch'
       → ((number place : ℕ) → r ≢ eccentricity.Refused number place) → (r ≡ eccentricity.Nothing) ↔ ((u : ℕ) → (u ≢ target) × Compatible (asker's_day q) q.A q.W u target → ⊥)
   unfolding BackwardEccentricityPromise
   backward_none target scratch r scratch' =
-      eccentricity_none _ _ _ (λ u. Pairs q u target) (λ u d p. (p.differ, counted_has_route q p))
-      (λ clear u none r. uncounted_has_no_route q _ clear u target r.0 none r.1) r
+      eccentricity_none (table q (takes (target ∷ []) [] (room scratch scratch_places ∷ []))) (Wiped scratch scratch') (scratch' ≡ scratch) (λ u. Pairs q u target) (λ u d p. (p.differ, counted_has_route q p))
+      (λ clear u none r. uncounted_has_no_route q (takes (target ∷ []) [] (room scratch scratch_places ∷ [])) clear u target r.0 none r.1) r
 
   -- the diameter, exactly if no stop is reached from another
   pub diameter_none : (scratch : List ℕ) (r : Answer) (scratch' : List ℕ) → DiameterPromise q scratch r scratch' → ((number place : ℕ) → r ≢ answer.Refused number place)
       → ((visits : ℕ) × (r ≡ answer.Nothing visits)) ↔ ((u v : ℕ) → (u ≢ v) × Compatible (asker's_day q) q.A q.W u v → ⊥)
   unfolding DiameterPromise
   diameter_none scratch r scratch' =
-      search_none _ _ _ _ _ (λ u v d p. (p.differ, counted_has_route q p)) (λ clear u v none r. uncounted_has_no_route q _ clear u v r.0 none r.1) r
+      search_none (table q (takes [] [] (room scratch scratch_places ∷ []))) (Wiped scratch scratch') (scratch' ≡ scratch) (Pairs q) (Bounds q) (λ u v d p. (p.differ, counted_has_route q p)) (λ clear u v none r. uncounted_has_no_route q (takes [] [] (room scratch scratch_places ∷ [])) clear u v r.0 none r.1) r
 
   -- the pivot-diameter, exactly if no pair is joined
   pub pivot_diameter_none : (pivots scratch : List ℕ) (r : Answer) (scratch' : List ℕ) → PivotDiameterPromise q pivots scratch r scratch'
       → ((number place : ℕ) → r ≢ answer.Refused number place)
       → ((visits : ℕ) × (r ≡ answer.Nothing visits)) ↔ ((u v : ℕ) → Joined (asker's_day q) q.A q.W (pivots_of pivots) u v → ⊥)
   unfolding PivotDiameterPromise
-  pivot_diameter_none pivots scratch r scratch' = search_none _ _ _ _ _ (λ u v d p. p.1) (λ clear. uncounted_unjoined q _ clear) r
+  pivot_diameter_none pivots scratch r scratch' =
+      search_none (table q (takes [] pivots (room scratch scratch_places ∷ []))) (Wiped scratch scratch') (scratch' ≡ scratch) (JoinedPairs q pivots) (PivotBounds q pivots) (λ u v d p. p.1)
+      (λ clear. uncounted_unjoined q (takes [] pivots (room scratch scratch_places ∷ [])) clear) r

@@ -1,5 +1,5 @@
 -- The starred cases hold: computed, and carried over to the definitions.
-use Rattle.std.specs.Prelude.{ℕ, suc, ◌≤◌, ◌<◌, ◌≡◌, refl, Bool, true, false, ◌&&◌, eqb, leb, ltb}
+use Rattle.std.specs.Prelude.{ℕ, suc, ◌≤◌, ◌≡◌, refl, Bool, true, false, ◌&&◌, eqb, leb, ltb}
 use Rattle.std.proofs.Common.{ap, subst, arith, eqb-true, leb-true, ltb-true}
 use mathlib.Core.List.Memᴰ
 use mathlib.Core.List.{List, [], ◌∷◌, Memᴰ}
@@ -7,7 +7,7 @@ use Rattle.std.proofs.Math.Option.{Option, none, some}
 use Rattle.rules.specs.Words.{things_from}
 use Rattle.rules.specs.Clock.{horizon}
 use Rattle.rules.specs.Day.{Row, rows_of, own}
-use Rattle.rules.specs.Routes.{Dist, unreached, after, Earliest}
+use Rattle.rules.specs.Routes.{Dist, unreached, after}
 use Rattle.rules.specs.Eccentricity.{Forward, Backward}
 use Rattle.rules.specs.Diameter.{Targets, Shown, NoneShown}
 use Rattle.rules.specs.Pivots.{Pivot, pivots_of}

@@ -1,5 +1,5 @@
 -- Each promise leaves one possible answer, and one possible content of each lent list.
-use Rattle.std.specs.Prelude.{ℕ, ◌≡◌, refl, List, [], ◌∷◌}
+use Rattle.std.specs.Prelude.{ℕ, ◌*◌, ◌≡◌, refl, List, [], ◌∷◌}
 use Rattle.std.proofs.Common.{ap, sym, ◌∙◌}
 use Rattle.clock.specs.declared.Length.{Length}
 use Rattle.rules.specs.Words.{GreatestIfAny}

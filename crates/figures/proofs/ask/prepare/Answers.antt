@@ -4,6 +4,7 @@ use mathlib.Core.Path.{◌≡◌, refl, sym, ◌∙◌, ap, subst}
 use mathlib.Core.Logic.{inl, inr}
 use mathlib.Core.List.{List}
 use native.Mathlib.Omega.{arith}
+use lib.ListN.{length-take}
 use Rattle.rules.specs.Day.{row_width, Row, rows_of, asker's_rows}
 use Rattle.rules.specs.Struck.{numbers}
 use Rattle.rules.specs.Laws.Checks.{clear_both}
@@ -14,12 +15,33 @@ use Rattle.day.proofs.Judging.{fault_judges}
 use Rattle.figures.specs.Parts.{plain_checks, own_check}
 use Rattle.figures.specs.Promises.{ask}
 use Rattle.figures.proofs.Judging.{told_fine, told_refused}
+use Rattle.figures.proofs.Preparing.{list_fits, own_few}
 use Rattle.figures.proofs.ask.prepare.Goals as goal
 
 pub returns-in-Refused : goal.returns-in-Refused
 returns-in-Refused c =
     let args = c.args in
     inl (told_refused (plain_checks (ask args.list.now args.n args.asker args.a args.w)) _ c.in-Refused.number c.in-Refused.place c.plain_check-v.ensures c.in-Refused.is, refl)
+
+pub own_rows-k-requires : goal.own_rows-k-requires
+own_rows-k-requires c =
+    let args = c.args in
+    let f = told_fine (plain_checks (ask args.list.now args.n args.asker args.a args.w)) _ c.plain_check-v.ensures c.in_default.is in omega (arith, list_fits args.list.now f.0 f.1.0, c.requires)
+
+pub overflow_mul-end : goal.overflow_mul-end
+overflow_mul-end c =
+    let args = c.args in
+    let f = told_fine (plain_checks (ask args.list.now args.n args.asker args.a args.w)) _ c.plain_check-v.ensures c.in_default.is in let few = own_few (ask args.list.now args.n args.asker args.a args.w) f.1.0 in let own = c.own_rows-k.ensures.number in omega arith
+
+pub slice_bounds-first_fault-end : goal.slice_bounds-first_fault-end
+slice_bounds-first_fault-end c =
+    let args = c.args in
+    let f = told_fine (plain_checks (ask args.list.now args.n args.asker args.a args.w)) _ c.plain_check-v.ensures c.in_default.is in let few = own_few (ask args.list.now args.n args.asker args.a args.w) f.1.0 in let own = c.own_rows-k.ensures.number in omega (arith, c.own_rows-k.auto, c.requires)
+
+pub first_fault-requires : goal.first_fault-requires
+first_fault-requires c =
+    let args = c.args in
+    let f = told_fine (plain_checks (ask args.list.now args.n args.asker args.a args.w)) _ c.plain_check-v.ensures c.in_default.is in let few = own_few (ask args.list.now args.n args.asker args.a args.w) f.1.0 in let own = c.own_rows-k.ensures.number in simp length-take (omega arith)
 
 pub returns-in-Refused-first_fault : goal.returns-in-Refused-first_fault
 returns-in-Refused-first_fault c =

@@ -9,7 +9,7 @@ use Rattle.rules.specs.Lent.{scratch_places}
 use Rattle.figures.specs.Parts.{last_checks}
 use Rattle.figures.specs.Promises.{room, takes}
 use Rattle.figures.proofs.Lasting.{none_of_one, refuses_7, refuses_10, last_clear}
-use Rattle.figures.proofs.Laying.{scratch_wiped, sweep_far}
+use Rattle.figures.proofs.Laying.{scratch_wiped, part_orderly, sweep_far, ready_for_all, laid_linked}
 use Rattle.figures.proofs.Answering.{far_fulfils}
 use Rattle.figures.proofs.backward.own_backward_eccentricity.Goals as goal
 
@@ -22,6 +22,14 @@ pub returns-then-scratch-lt-SCRATCH : goal.returns-then-scratch-lt-SCRATCH
 returns-then-scratch-lt-SCRATCH c =
     let args = c.args in
     (refuses_10 (rows_of args.rows.now) args.n args.a args.w (args.stop ∷ []) (room args.scratch.now scratch_places ∷ []) (none_of_one (λ l. omega arith)) (any_here c.if-scratch-lt-SCRATCH.true), refl)
+
+pub lay_legs-end-requires : goal.lay_legs-end-requires
+lay_legs-end-requires c = record { ready = (ready_for_all c.requires, omega arith); next_len = (refl, refl) }
+
+pub far_to-far-requires : goal.far_to-far-requires
+far_to-far-requires c =
+    let args = c.args in
+    record { orderly = part_orderly args.n args.a args.w args.rows.now c.requires _ _ c.lay_legs-end.ensures.count c.lay_legs-end.ensures.copied (c.lay_legs-end.result - 0) (omega (arith, c.lay_legs-end.ensures.ends)); linked = laid_linked c.lay_legs-end.ensures (c.lay_legs-end.result - 0) (omega arith); n_le_most_stops = c.requires.few_stops }
 
 pub returns : goal.returns
 returns c =

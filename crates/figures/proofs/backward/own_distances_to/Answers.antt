@@ -8,7 +8,7 @@ use Rattle.rules.specs.Day.{rows_of}
 use Rattle.rules.specs.Lent.{scratch_places}
 use Rattle.figures.specs.Promises.{room}
 use Rattle.figures.proofs.Lasting.{none_of_one, none_of_more, refuses_7, refuses_10, last_clear}
-use Rattle.figures.proofs.Laying.{scratch_wiped, sweep_fills}
+use Rattle.figures.proofs.Laying.{scratch_wiped, part_orderly, sweep_fills, ready_for_all, laid_linked}
 use Rattle.figures.proofs.backward.own_distances_to.Goals as goal
 
 pub returns-then-target-n : goal.returns-then-target-n
@@ -25,6 +25,14 @@ pub returns-then-scratch-lt-SCRATCH : goal.returns-then-scratch-lt-SCRATCH
 returns-then-scratch-lt-SCRATCH c =
     let args = c.args in
     (refuses_10 (rows_of args.rows.now) args.n args.a args.w (args.target ∷ []) (room args.out.now args.n ∷ room args.scratch.now scratch_places ∷ []) (none_of_one (λ l. omega arith)) (any_later (any_here c.if-scratch-lt-SCRATCH.true)), (refl, refl))
+
+pub lay_legs-end-requires : goal.lay_legs-end-requires
+lay_legs-end-requires c = record { ready = (ready_for_all c.requires, omega arith); next_len = (refl, refl) }
+
+pub to_target-requires : goal.to_target-requires
+to_target-requires c =
+    let args = c.args in
+    record { orderly = part_orderly args.n args.a args.w args.rows.now c.requires _ _ c.lay_legs-end.ensures.count c.lay_legs-end.ensures.copied (c.lay_legs-end.result - 0) (omega (arith, c.lay_legs-end.ensures.ends)); linked = laid_linked c.lay_legs-end.ensures (c.lay_legs-end.result - 0) (omega arith); n_le_most_stops = c.requires.few_stops; n_in_bounds = c.if-out-stops.false }
 
 pub returns : goal.returns
 returns c =

@@ -7,7 +7,7 @@ use Rattle.rules.specs.Day.{rows_of}
 use Rattle.figures.specs.Parts.{last_checks}
 use Rattle.figures.specs.Promises.{takes}
 use Rattle.figures.proofs.Lasting.{none_of_none, none_of_one, refuses_7, last_clear}
-use Rattle.figures.proofs.Laying.{pass_fills, pass_far}
+use Rattle.figures.proofs.Laying.{legs_few, part_laid, pass_fills, pass_far}
 use Rattle.figures.proofs.Answering.{far_fulfils}
 use Rattle.figures.proofs.forward.own_forward_eccentricity.Goals as goal
 
@@ -15,6 +15,21 @@ pub returns-then-stop-n : goal.returns-then-stop-n
 returns-then-stop-n c =
     let args = c.args in
     (refuses_7 (rows_of args.rows.now) args.n args.a args.w args.stop [] c.if-stop-n.true, tt)
+
+pub overflow_mul-end : goal.overflow_mul-end
+overflow_mul-end c =
+    let args = c.args in
+    omega (arith, legs_few args.n args.a args.w args.rows.now c.requires _ _ c.make_legs-m.result c.make_legs-m.ensures)
+
+pub slice_bounds-forward_pass-end : goal.slice_bounds-forward_pass-end
+slice_bounds-forward_pass-end c =
+    let args = c.args in
+    omega (arith, legs_few args.n args.a args.w args.rows.now c.requires _ _ c.make_legs-m.result c.make_legs-m.ensures, c.make_legs-m.auto)
+
+pub forward_pass-requires : goal.forward_pass-requires
+forward_pass-requires c =
+    let args = c.args in
+    (omega (arith, c.requires.few_stops), (omega arith, part_laid args.n args.a args.w args.rows.now c.requires _ _ c.make_legs-m.result c.make_legs-m.ensures (c.make_legs-m.result * 4 - 0) (omega arith)))
 
 pub returns : goal.returns
 returns c =

@@ -6,9 +6,24 @@ use mathlib.Core.List.{[], ◌∷◌}
 use Rattle.rules.specs.Lent.{Fills}
 use Rattle.figures.specs.Parts.{Stretched}
 use Rattle.figures.specs.Promises.{ask, room, takes, TablePromise}
-use Rattle.figures.proofs.Preparing.{told_rows, told_unprepared, part_rows}
+use Rattle.figures.proofs.Preparing.{told_rows, told_unprepared, rows_few, part_rows, part_ready}
 use Rattle.figures.proofs.Answering.{then_fulfils}
 use Rattle.figures.proofs.forward.table.Goals as goal
+
+pub overflow_mul-end : goal.overflow_mul-end
+overflow_mul-end c =
+    let args = c.args in
+    let t = told_rows (ask args.list.now args.n args.asker args.a args.w) _ _ _ c.in-Rows.k c.prepare-p.ensures c.in-Rows.is in omega (arith, rows_few (ask args.list.now args.n args.asker args.a args.w) _ c.in-Rows.k _ t.0 t.1)
+
+pub slice_bounds-own_table-end : goal.slice_bounds-own_table-end
+slice_bounds-own_table-end c =
+    let args = c.args in
+    let t = told_rows (ask args.list.now args.n args.asker args.a args.w) _ _ _ c.in-Rows.k c.prepare-p.ensures c.in-Rows.is in omega (arith, rows_few (ask args.list.now args.n args.asker args.a args.w) _ c.in-Rows.k _ t.0 t.1, c.prepare-p.auto)
+
+pub own_table-requires : goal.own_table-requires
+own_table-requires c =
+    let args = c.args in
+    let t = told_rows (ask args.list.now args.n args.asker args.a args.w) _ _ _ c.in-Rows.k c.prepare-p.ensures c.in-Rows.is in part_ready (ask args.list.now args.n args.asker args.a args.w) _ c.in-Rows.k _ t.0 t.1 (c.in-Rows.k * 5 - 0) (omega arith)
 
 pub returns-in-Refused : goal.returns-in-Refused
 unfolding TablePromise

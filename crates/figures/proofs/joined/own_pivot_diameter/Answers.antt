@@ -12,6 +12,7 @@ use Rattle.figures.specs.Promises.{room, takes}
 use Rattle.figures.specs.Laws.Exists.{search_fulfils}
 use Rattle.figures.proofs.Judging.{told_fine, told_refused}
 use Rattle.figures.proofs.Lasting.{none_of_one, pivots_refuse, pivots_10, pivots_all_clear}
+use Rattle.figures.proofs.Pivoting.{pivots_clear}
 use Rattle.figures.proofs.Laying.{scratch_wiped}
 use Rattle.figures.proofs.joined.own_pivot_diameter.Goals as goal
 
@@ -24,6 +25,11 @@ pub returns-then-scratch-lt-SCRATCH : goal.returns-then-scratch-lt-SCRATCH
 returns-then-scratch-lt-SCRATCH c =
     let args = c.args in
     let clear = told_fine (check_8 args.pivots.now ∷ check_9 args.n args.a args.w (pivots_of args.pivots.now) ∷ []) _ c.pivots_check-v.ensures c.in_default.is in (pivots_10 (rows_of args.rows.now) args.n args.a args.w args.pivots.now (room args.scratch.now scratch_places ∷ []) clear (any_here c.if-scratch-lt-SCRATCH.true), refl)
+
+pub search_joined-st-requires : goal.search_joined-st-requires
+search_joined-st-requires c =
+    let args = c.args in
+    let clear = told_fine (check_8 args.pivots.now ∷ check_9 args.n args.a args.w (pivots_of args.pivots.now) ∷ []) _ c.pivots_check-v.ensures c.in_default.is in record { ready = c.requires; pivot_width_len_bound = pivots_clear args.n args.a args.w args.pivots.now clear }
 
 pub returns : goal.returns
 returns c =

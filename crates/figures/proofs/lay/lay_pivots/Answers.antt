@@ -3,8 +3,9 @@ use Prim.Native.Nat.{ℕ, ◌+◌, ◌-◌, ◌*◌, ◌≤◌}
 use native.Mathlib.Omega.{arith}
 use mathlib.Core.Path.{◌≡◌, refl, ap, ◌∙◌}
 use lib.ListN.{length}
+use Rattle.rules.specs.Clock.{horizon}
 use Rattle.figures.proofs.Pivoting.{pivot_at, length_pivots}
-use Rattle.figures.proofs.Placing.{place_more, place_end, apart_more, apart_none}
+use Rattle.figures.proofs.Placing.{place_more, place_end, apart_more, apart_none, pivot_sits}
 use Rattle.passes.specs.Forward.{init, passed}
 use Rattle.passes.specs.Laws.Passed.{passed_length, init_long}
 use Rattle.passes.specs.Laws.Reach.{reached_back_length, reach_init_long}
@@ -18,6 +19,18 @@ use Rattle.figures.proofs.lay.lay_pivots.Goals as goal
 
 pub loop-i-init : goal.loop-i-init
 loop-i-init c = (omega arith, (apart_none _ _, (apart_none _ _, (λ j l. absurd (omega arith), λ j l. absurd (omega arith)))))
+
+pub since-reading-requires : goal.since-reading-requires
+since-reading-requires c =
+    let args = c.args in
+    (pivot_sits args.n args.a horizon args.pivots.now c.loop-i.i c.requires.pivot_width_len_bound.1 c.loop-i-test.true).not_before
+
+pub lay_pivot-requires : goal.lay_pivot-requires
+lay_pivot-requires c =
+    let loop = c.loop-i in
+    let args = c.args in
+    let pre = c.requires in
+    let sits = pivot_sits args.n args.a horizon args.pivots.now loop.i c.requires.pivot_width_len_bound.1 c.loop-i-test.true in record { stop_lt_n = (sits.below, (omega (arith, sits.not_after, c.since-reading.ensures), c.requires.n_le_most_stops.1)); n_in_bounds = (omega (arith, loop.invariant.1.0.same_length, c.requires.pivot_width_len_bound.0, c.requires.n_le_most_stops.0, c.requires.all_places_in_bounds.0), omega (arith, loop.invariant.1.1.0.same_length, c.requires.pivot_width_len_bound.0, c.requires.n_le_most_stops.0, c.requires.all_places_in_bounds.1)) }
 
 pub loop-i-preserved : goal.loop-i-preserved
 loop-i-preserved c =

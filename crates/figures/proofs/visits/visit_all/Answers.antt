@@ -1,5 +1,4 @@
 -- The loop: the search with the turns left, from here, ends as the search from the start.
-use Prim.Native.Nat.{◌-◌}
 use mathlib.Core.Path.{sym, ◌∙◌}
 use Rattle.passes.specs.Legs.{legs_in}
 use Rattle.search.specs.Laws.Searched.{going_begun, going_visit, turns_over, targets_over, stops_there}
