@@ -1,7 +1,6 @@
 -- A reply tells its answer: two answers with one reply are equal.
-use Rattle.std.specs.Prelude.{ℕ, ◌≡◌, refl, List, [], ◌∷◌}
+use Rattle.std.specs.Prelude.{ℕ, ◌≡◌, refl}
 use Rattle.std.proofs.Common.{ap}
-use Rattle.clock.specs.declared.Length.{Length}
 use Rattle.figures.specs.declared.answers.Filled.{Filled}
 use Rattle.figures.specs.declared.answers.Filled.TheVariants as filled
 use Rattle.figures.specs.declared.answers.Eccentricity.{Eccentricity}
