@@ -9,7 +9,7 @@ use lib.IntN.{ℤ, pos, negsuc}
 use lib.ListN.{length, take, length-take}
 use lib.Signed.{lt_z}
 use borrow.Author.Tests.{ltb-true}
-use Rattle.libc.specs.Io.{Moved}
+use Rattle.taking.specs.Room.{Moved}
 use Rattle.io.specs.Counts.{clamp_len}
 use Rattle.taking.specs.declared.state.Day.{Day}
 use Rattle.taking.specs.declared.state.Step.{Step}

@@ -137,6 +137,11 @@ pub record EndTaken (day : Day) (line list pivots out : List ℕ) (end : ℕ) (o
   pub puts : Puts 0 text out end out'
   pub fits : end ≤ out_room
 
+-- what a read of at most n bytes may answer: -1, or how many bytes it read
+abbrev pub Moved : (n : ℕ) → (got : ℤ) → Type 0
+Moved n (pos k) = k ≤ n
+Moved n (negsuc k) = k ≡ 0
+
 -- what a read led to, by what it answered: it failed, and nothing is printed; the input ended; or so many bytes were read
 abbrev pub ReadTaken : (got : ℤ) (buffer : List ℕ) → Day → (line list pivots out : List ℕ) → Step → (line' list' pivots' out' : List ℕ) → Type 0
 ReadTaken (negsuc k) buffer day line list pivots out r line' list' pivots' out' = (r ≡ step.Stop 0) × (out' ≡ out)

@@ -1,10 +1,9 @@
 // Lines of the input, however it comes in pieces.
 ghost use Rattle.std.specs.Prelude.{◌≡◌, [], ◌∷◌, length};
-ghost use Rattle.libc.specs.Io.{Moved};
 ghost use Rattle.rules.specs.Lent.{scratch_places};
 ghost use Rattle.taking.specs.Known.{Zeros};
 ghost use Rattle.taking.specs.Pieces.{longest};
-ghost use Rattle.taking.specs.Room.{most_bytes, InRoom, Ahead, Spare, Roomy, LineTaken, PieceTaken, EndTaken, ReadTaken};
+ghost use Rattle.taking.specs.Room.{most_bytes, InRoom, Ahead, Spare, Roomy, LineTaken, PieceTaken, EndTaken, Moved, ReadTaken};
 
 use crate::state::{Buffer, Day, LONGEST, Line, List, Next, Out, Pivots, Scratch, Step};
 use crate::take::take_frame;

@@ -54,6 +54,7 @@ spaced_single (w ∷ v ∷ ws) _ _ (more {s = s} {rest = x} p ps) (more {s = t} 
     let a = spelt_single w s t p q in
     let b = spaced_single (v ∷ ws) x y ps qs in
     rw (a, b)
+spaced_single [] s t x'' _ = elim x'' [ ]
 
 spaced_exists : (w : Word) (ws : List Word) → (s : List ℕ) × Spaced (w ∷ ws) s
 spaced_exists w [] = let p = spelt_exists w in (p.0, last p.1)
@@ -66,6 +67,7 @@ spaced_exists w (v ∷ ws) =
 pub spaced_next : (ws : List Word) (before : List ℕ) (w : Word) (s : List ℕ) → Spaced ws before → Spelt w s → Spaced (ws ++ (w ∷ [])) (before ++ (space ∷ s))
 spaced_next (v ∷ []) before w s (last p) q = more p (last q)
 spaced_next (v ∷ u ∷ us) _ w s (more {s = x} {rest = y} p ps) q = rw (append_assoc x (space ∷ y) (space ∷ s)) (more p (spaced_next (u ∷ us) y w s ps q))
+spaced_next [] before w s x'' q = elim x'' [ ]
 
 -- words have one line, and there is one for any words
 pub line_single : (ws : List Word) (s t : List ℕ) → LineOf ws s → LineOf ws t → s ≡ t

@@ -62,18 +62,21 @@ is_frame (frame.Stops n) (stops e) = omega arith
 is_frame (frame.Row a b c d o) (row e r) = omega arith
 is_frame (frame.Pivot p s) (pivot e r) = omega arith
 is_frame (frame.Ask x a w) (asks e r) = omega arith
+is_frame {t = t} frame.Nothing x'' = elim x'' [ ]
 
 later : {t t' : Known} {x : List ℕ} (f : Frame) → 2 ≤ type_of f → Does t f t' x → (n : ℕ) × (t.stops ≡ some n)
 later (frame.Stops n) h (stops e) = absurd (omega arith)
 later (frame.Row a b c d o) h (row {n} e r) = (n, e)
 later (frame.Pivot p s) h (pivot {n} e r) = (n, e)
 later (frame.Ask x a w) h (asks {n} e r) = (n, e)
+later {t = t} frame.Nothing h _ = elim h [ ]
 
 pub only_first : {t t' : Known} {x : List ℕ} (f : Frame) → type_of f ≤ 1 → Does t f t' x → t.stops ≡ none
 only_first (frame.Stops n) h (stops e) = e
 only_first (frame.Row a b c d o) h (row e r) = absurd (omega arith)
 only_first (frame.Pivot p s) h (pivot e r) = absurd (omega arith)
 only_first (frame.Ask x a w) h (asks e r) = absurd (omega arith)
+only_first {t = t} frame.Nothing h x3 = elim x3 [ ]
 
 -- before the number of stops it can't be done
 pub too_early : {t : Known} (f : Frame) → 2 ≤ type_of f → t.stops ≡ none → (t' : Known) (x : List ℕ) → Does t f t' x → ⊥

@@ -62,6 +62,7 @@ taken_stopped {t} {t'} k (l ∷ ls) ms {y = y} (one_line {text = a} {more = b} h
 pub stopped_more : {t : Known} (k : ℕ) (ls ms : List (List ℕ)) {x : List ℕ} → Stopped k t ls x → Stopped k t (ls ++ ms) x
 stopped_more k (l ∷ ls) ms (at_this n h) = at_this n h
 stopped_more k (l ∷ ls) ms (at_later h r) = at_later h (stopped_more (suc k) ls ms r)
+stopped_more {t = t} k [] ms x3 = elim x3 [ ]
 
 text_short : (f : Frame) → 2 + total (widths_for (type_of f)) ≤ longest
 unfolding total widths_for

@@ -42,6 +42,7 @@ does_single t (frame.Row from to start travel owner) _ _ _ _ (row e h) (row f g)
 does_single t (frame.Pivot stop reading) _ _ _ _ (pivot e h) (pivot f g) = (refl, refl)
 does_single t (frame.Ask asker A W) _ _ x y (asks {n} e a) (asks {n = m} f b) =
     (refl, answered_single t n asker A W x y a (subst (λ (k : ℕ). Answered t k asker A W y) (some_same f e) b))
+does_single t frame.Nothing _ _ x y x4 _ = elim x4 [ ]
 
 -- what a line does
 pub tells_single : {t : Known} {line : List ℕ} {t' t'' : Known} {x y : List ℕ} → Tells t line t' x → Tells t line t'' y → (t' ≡ t'') × (x ≡ y)
@@ -63,11 +64,13 @@ stopped_single k (l ∷ ls) (at_later {text = a} {more = b} h r) (at_later {text
     let e = tells_single h g in
     let rest = stopped_single (suc k) ls (subst (λ (t : Known). Stopped (suc k) t ls b) e.0 r) s in
     rw (e.1, rest)
+stopped_single k {t = t} [] {x = x} {y = y} x4 _ = elim x4 [ ]
 
 pub taken_not_stopped : (k : ℕ) {t t' : Known} (lines : List (List ℕ)) {x y : List ℕ} → Taken t lines t' x → Stopped k t lines y → ⊥
 taken_not_stopped k (l ∷ ls) (one_line h r) (at_this m g) = m _ _ h
 taken_not_stopped k {t' = t'} (l ∷ ls) (one_line {more = b} h r) (at_later g s) =
     let e = tells_single h g in taken_not_stopped (suc k) {t' = t'} ls (subst (λ (t : Known). Taken t ls t' b) e.0 r) s
+taken_not_stopped k {t = t} {t' = t'} [] {y = y} _ x5 = elim x5 [ ]
 
 -- what an input prints
 pub prints_single : (k : ℕ) {t : Known} (lines : List (List ℕ)) {x y : List ℕ} → Prints k t lines x → Prints k t lines y → x ≡ y
