@@ -7,7 +7,7 @@ use crate::input::{read_all, write};
 use printing::header_line;
 use taking::{LONGEST, OUT_ROOM};
 
-fn main() {
+fn main(rt: HostRuntime) {
     let mut out = [0u8; OUT_ROOM];
     let end = header_line(&mut out);
     write(&out, end);
@@ -16,7 +16,9 @@ fn main() {
     let mut list = [0u32; 10240];
     let mut pivots = [0u32; 32];
     let mut scratch = [0u32; 16384];
+    let mut input = rt.stdin();
     read_all(
+        &mut input,
         &mut buffer,
         &mut line,
         &mut list,

@@ -6,7 +6,7 @@ use mathlib.Core.Path.{◌≡◌, refl, sym, ap, ◌∙◌}
 use mathlib.Core.List.{List, [], ◌∷◌, ◌++◌, append-nil, append_assoc}
 use lib.ListN.{length, take, drop, get_or, set, length-append}
 use lib.Seq.{take-suc, take-suc-set, take-length, drop-set-lt, drop-drop}
-use Rattle.printing.specs.Lines.{Word, letters, numeral, Spelt, as_letters, space, newline, Spaced, last, LineOf}
+use Rattle.printing.specs.Lines.{Word, letters, numeral, as_letters, space, newline, Spaced, last}
 use Rattle.printing.specs.Parts.{line_room, Puts, PutsNumber, PutsLine}
 use Rattle.printing.specs.Laws.Spelling.{spaced_next}
 use Rattle.printing.specs.Laws.Puts.{puts_next}

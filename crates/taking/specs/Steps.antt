@@ -1,5 +1,5 @@
 -- What each kind of frame leads to, as the code works it out.
-use Rattle.std.specs.Prelude.{ℕ, ◌+◌, ◌*◌, ◌≡◌, true, false, cond, List, [], ◌∷◌, leb, take}
+use Rattle.std.specs.Prelude.{ℕ, ◌+◌, ◌*◌, ◌≡◌, cond, List, [], ◌∷◌, leb, take}
 use Rattle.std.proofs.lemmas.List.Edits.{sets}
 use Rattle.rules.specs.Day.{most_rows, row_width}
 use Rattle.rules.specs.Pivots.{most_pivots}

@@ -7,17 +7,17 @@ use Rattle.std.proofs.Math.ListN.{take, length-append, length-set}
 use Rattle.std.proofs.Math.Seq.{length-take-le}
 use Rattle.rules.specs.Day.{row_width}
 use Rattle.printing.specs.Lines.{newline, frame_words}
-use Rattle.printing.specs.Parts.{line_room, Puts, PutsLine}
+use Rattle.printing.specs.Parts.{line_room, PutsLine}
 use Rattle.printing.specs.Laws.Puts.{puts_none, puts_next}
 use Rattle.taking.specs.declared.state.Day.{Day}
 use Rattle.taking.specs.declared.state.Step.{Step}
 use Rattle.taking.specs.declared.state.Step.TheVariants as step
 use Rattle.taking.specs.Known.{pivot_width}
-use Rattle.taking.specs.Stream.{ended, left, last_line, Taken, no_line, one_line, at_this, Prints, to_end, to_stop}
-use Rattle.taking.specs.Pieces.{longest, Stand, Went, Halts, by_line, by_length}
+use Rattle.taking.specs.Stream.{ended, left, last_line, Taken, no_line, one_line, at_this, to_end, to_stop}
+use Rattle.taking.specs.Pieces.{longest, by_line, by_length}
 use Rattle.taking.specs.Days.{with_len, with_made}
-use Rattle.taking.specs.Room.{InRoom, Ahead, Spare, Roomy, known_of, stand_of, Keeps, LineDone, LineNamed, LineTaken, PieceWent, PieceHalts, PieceTaken, made_by, EndTaken}
-use Rattle.taking.specs.Laws.Pieces.{few_ended, went_went, went_halts, halts_more}
+use Rattle.taking.specs.Room.{InRoom, Ahead, Spare, Roomy, known_of, Keeps, LineTaken, PieceWent, PieceHalts, PieceTaken, made_by, EndTaken}
+use Rattle.taking.specs.Laws.Pieces.{went_went, went_halts, halts_more}
 
 module _ (b : ℕ) (day : Day) (line list pivots out : List ℕ) where
   -- a newline ends the line

@@ -1,7 +1,7 @@
 -- Every line does something or is no frame, and every input has an output.
 use Rattle.std.specs.Prelude.{ℕ, suc, ◌*◌, ◌≤◌, ◌<◌, ◌≡◌, refl, ◌⊎◌, List, [], ◌∷◌, ◌++◌, length, get_or, replicate}
 use Rattle.std.proofs.Math.Decide.{dec_lt}
-use Rattle.std.proofs.Common.{sym, ◌∙◌, subst, inl, inr, arith}
+use Rattle.std.proofs.Common.{subst, inl, inr, arith}
 use Rattle.std.proofs.Math.Option.{Option, none, some}
 use Rattle.std.proofs.lemmas.List.{length-replicate, get_or-replicate}
 use Rattle.std.proofs.Math.ListN.{get_or-eq_default}
@@ -17,10 +17,10 @@ use Rattle.frames.specs.declared.frame.Frame.TheVariants as frame
 use Rattle.frames.specs.Text.{type_of, IsTextOf}
 use Rattle.frames.specs.Laws.Unique.{text_unique, promised}
 use Rattle.frames.specs.Laws.Exists.{read_exists}
-use Rattle.printing.specs.Lines.{LineOf, header_words, words_of, frame_words, letters}
+use Rattle.printing.specs.Lines.{LineOf, words_of}
 use Rattle.printing.specs.Laws.Spelling.{line_exists}
 use Rattle.taking.specs.Known.{Known, nothing, with_stops, with_row, with_pivot, pivot_width, Zeros, Answered, Does, stops, row, pivot, asks, Tells, NoFrame}
-use Rattle.taking.specs.Stream.{lines_of, Taken, no_line, one_line, Stopped, at_this, at_later, Prints, to_end, to_stop, Output}
+use Rattle.taking.specs.Stream.{lines_of, no_line, one_line, at_this, at_later, Prints, to_end, to_stop, Output}
 use Rattle.taking.specs.Laws.Unique.{not_both}
 
 pub zero_places : (k : ℕ) → Zeros k (replicate k 0)

@@ -1,12 +1,12 @@
 -- Pieces one after another do what one piece of both does, so it does not matter how the input was cut.
-use Rattle.std.specs.Prelude.{ℕ, zero, suc, ◌+◌, ◌≤◌, ◌<◌, ◌≡◌, refl, ◌⊎◌, Bool, true, false, cond, List, [], ◌∷◌, ◌++◌, eqb, length}
+use Rattle.std.specs.Prelude.{ℕ, suc, ◌+◌, ◌≤◌, ◌<◌, ◌≡◌, refl, ◌⊎◌, Bool, true, false, cond, List, [], ◌∷◌, ◌++◌, eqb, length}
 use Rattle.std.proofs.Common.{arith, sym, ap, ◌∙◌, inl, inr, append-nil, append_assoc, length-append}
 use Rattle.frames.specs.declared.frame.Frame.{Frame}
 use Rattle.frames.specs.declared.frame.Frame.TheVariants as frame
 use Rattle.frames.specs.Text.{type_of}
 use Rattle.frames.specs.Laws.Texts.{widths_for, total, text_length}
 use Rattle.printing.specs.Lines.{newline, LineOf, frame_words}
-use Rattle.taking.specs.Known.{Known, nothing, Tells, NoFrame}
+use Rattle.taking.specs.Known.{Known, nothing, NoFrame}
 use Rattle.taking.specs.Stream.{ended, left, last_line, lines_of, Taken, no_line, one_line, Stopped, at_this, at_later, Prints, to_end, to_stop}
 use Rattle.taking.specs.Pieces.{longest, Stand, start, Went, Halts, by_line, by_length}
 

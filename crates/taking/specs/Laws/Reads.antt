@@ -6,7 +6,7 @@ use Rattle.taking.specs.declared.state.Step.{Step}
 use Rattle.taking.specs.declared.state.Step.TheVariants as step
 use Rattle.taking.specs.Pieces.{start}
 use Rattle.taking.specs.Days.{begun}
-use Rattle.taking.specs.Room.{most_bytes, out_room, stand_of, PieceWent, PieceHalts, PieceTaken, made_by, EndTaken, ReadTaken}
+use Rattle.taking.specs.Room.{most_bytes, out_room, stand_of, PieceWent, PieceHalts, PieceTaken, made_by, ReadTaken}
 
 -- at first the run stands at the start
 pub stands_at_start : (line list pivots : List ℕ) → stand_of begun line list pivots ≡ start

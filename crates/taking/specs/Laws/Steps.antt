@@ -1,8 +1,8 @@
 -- What the code makes of a frame, a line and a byte is what the definitions say.
 use Rattle.std.specs.Prelude.{ℕ, ◌+◌, ◌*◌, ◌≤◌, ◌<◌, ◌≡◌, refl, ◌⊎◌, Bool, true, false, cond, List, [], ◌∷◌, ◌++◌, leb, length, get_or, take, drop}
-use Rattle.std.proofs.Common.{arith, suc-mul, add-one, sym, ap, ◌∙◌, subst, inl, inr, append_assoc, length-append, take_at, drop_at, length-take-le, leb-true, leb-false}
+use Rattle.std.proofs.Common.{arith, suc-mul, add-one, sym, ap, ◌∙◌, subst, inl, inr, length-append, take_at, drop_at, length-take-le, leb-true, leb-false}
 use Rattle.std.proofs.Math.Decide.{dec_lt}
-use Rattle.std.proofs.Math.Option.{Option, none, some}
+use Rattle.std.proofs.Math.Option.{Option, some}
 use Rattle.std.proofs.lemmas.List.Edits.{sets, sets-eq}
 use Rattle.std.proofs.Math.Seq.{length-sets}
 use Rattle.rules.specs.Day.{most_rows, row_width, Ask}
@@ -21,7 +21,7 @@ use Rattle.printing.specs.Laws.Puts.{puts_none}
 use Rattle.taking.specs.declared.state.Day.{Day}
 use Rattle.taking.specs.declared.state.Next.{Next}
 use Rattle.taking.specs.declared.state.Next.TheVariants as next
-use Rattle.taking.specs.Known.{Known, pivot_width, Zeros, Does, stops, row, pivot, asks, Tells, NoFrame}
+use Rattle.taking.specs.Known.{Known, pivot_width, Zeros, Does, stops, row, pivot, asks, NoFrame}
 use Rattle.taking.specs.Days as days
 use Rattle.taking.specs.Steps.{stops_next, row_next, row_put, pivot_next, pivot_put, Asked}
 use Rattle.taking.specs.Room.{InRoom, known_of, Keeps, FrameDone, FrameRefused, FrameTaken, LineDone, LineNamed}

@@ -1,8 +1,7 @@
 -- A line does one thing, an input has one output, and a piece leads to one outcome.
-use Rattle.std.specs.Prelude.{ℕ, suc, ◌+◌, ◌≤◌, ◌<◌, ◌≡◌, refl, List, [], ◌∷◌, ◌++◌, length}
-use Rattle.std.proofs.Common.{arith, sym, ap, ◌∙◌, subst, ext_get_or}
+use Rattle.std.specs.Prelude.{ℕ, suc, ◌+◌, ◌≡◌, refl, List, [], ◌∷◌, length}
+use Rattle.std.proofs.Common.{arith, sym, ◌∙◌, subst, ext_get_or}
 use Rattle.std.proofs.Math.Option.{Option, none, some}
-use Rattle.rules.specs.Lent.{scratch_places}
 use Rattle.figures.specs.declared.answers.Answer.{Answer}
 use Rattle.figures.specs.Promises.{ask, PivotDiameterPromise}
 use Rattle.figures.specs.Laws.Unique.{pivot_diameter_unique}
@@ -11,9 +10,9 @@ use Rattle.frames.specs.declared.frame.Frame.TheVariants as frame
 use Rattle.frames.specs.Laws.Unique.{text_unique}
 use Rattle.printing.specs.Lines.{LineOf, header_words, words_of, frame_words}
 use Rattle.printing.specs.Laws.Spelling.{line_single}
-use Rattle.taking.specs.Known.{Known, nothing, Zeros, Answered, Does, stops, row, pivot, asks, Tells, NoFrame}
-use Rattle.taking.specs.Stream.{ended, left, lines_of, Taken, no_line, one_line, Stopped, at_this, at_later, Prints, to_end, to_stop, Output}
-use Rattle.taking.specs.Pieces.{longest, Stand, Went, Halts, by_line, by_length}
+use Rattle.taking.specs.Known.{Known, Zeros, Answered, Does, stops, row, pivot, asks, Tells}
+use Rattle.taking.specs.Stream.{ended, lines_of, Taken, no_line, one_line, Stopped, at_this, at_later, Prints, to_end, to_stop, Output}
+use Rattle.taking.specs.Pieces.{Stand, Went, Halts, by_line, by_length}
 
 pub zeros_single : {k : ℕ} {xs ys : List ℕ} → Zeros k xs → Zeros k ys → xs ≡ ys
 zeros_single {xs = xs} {ys = ys} a b = ext_get_or 0 xs ys (a.long ∙ sym b.long) (λ i h. a.zeros i ∙ sym (b.zeros i))

@@ -1,5 +1,4 @@
 -- The loop stays within the list.
-use Prim.Native.Nat.{◌-◌}
 use native.Mathlib.Omega.{arith}
 use lib.ListN.{length-set}
 use Rattle.cases.proofs.office.make_rows.Goals as goal

@@ -1,5 +1,4 @@
 -- Invariant: the bytes put so far stand after what was there.
-use Prim.Native.Nat.{◌-◌}
 use native.Mathlib.Omega.{arith}
 use mathlib.Core.Path.{refl}
 use lib.ListN.{length-set}

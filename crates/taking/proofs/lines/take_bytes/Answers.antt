@@ -1,5 +1,4 @@
 -- Invariant: the bytes before i are taken, and what they print stands at the front.
-use Prim.Native.Nat.{◌-◌}
 use mathlib.Core.Path.{refl}
 use native.Mathlib.Omega.{arith}
 use lib.Seq.{take_all}
@@ -16,8 +15,11 @@ pub returns-in-Stop : goal.returns-in-Stop
 returns-in-Stop c =
     let args = c.args in
     let loop = c.loop-i in
-    let byte = c.take_byte in record { piece_taken = anew_halts args.bytes.now 0 0 args.day _ c.with_made-now.ensures.value args.line.now args.list.now args.pivots.now args.out.now _ _
-          (bytes_stop args.bytes.now loop.i c.loop-i-test.true 0 _ args.line.now args.list.now args.pivots.now args.out.now loop.now loop.line loop.list loop.pivots loop.out byte.result _ c.take_byte.new.line c.take_byte.new.list c.take_byte.new.pivots c.take_byte.new.out loop.invariant.1.0 c.take_byte.ensures.piece_taken c.in-Stop.is); zeros_2 = c.take_byte.ensures.zeros_2 }
+    let byte = c.take_byte in record {
+      piece_taken = anew_halts args.bytes.now 0 0 args.day _ c.with_made-now.ensures.value args.line.now args.list.now args.pivots.now args.out.now _ _
+          (bytes_stop args.bytes.now loop.i c.loop-i-test.true 0 _ args.line.now args.list.now args.pivots.now args.out.now loop.now loop.line loop.list loop.pivots loop.out byte.result _ c.take_byte.new.line c.take_byte.new.list c.take_byte.new.pivots c.take_byte.new.out loop.invariant.1.0 c.take_byte.ensures.piece_taken c.in-Stop.is);
+      zeros_2 = c.take_byte.ensures.zeros_2;
+    }
 
 pub loop-i-preserved : goal.loop-i-preserved
 loop-i-preserved c =
