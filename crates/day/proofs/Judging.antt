@@ -11,8 +11,8 @@ use borrow.Author.Tests.{leb-false, lt-leb, ltb-true, lt-ltb}
 use Rattle.rules.specs.Words.{Least, At, at_first, at_later}
 use Rattle.rules.specs.Day.{last_client, Row, Faulty, unsound, falls, Overowned, overowned}
 use Rattle.rules.specs.Table.{row_fault, check_6, office_rows, FirstWrong}
-use Rattle.rules.specs.Laws.Single.{least_single}
-use Rattle.rules.specs.Laws.Good.{at_same}
+use Rattle.rules.proofs.Laws.Single.{least_single}
+use Rattle.rules.proofs.Laws.Good.{at_same}
 use Rattle.day.specs.Rows.{soundb, rightb}
 use Rattle.day.specs.Verdicts.{Refusal, first_said, fault_says, office_number, office_says, verdict_of, Judges}
 use Rattle.day.proofs.Sounding.{not_both, sound_of, of_sound}

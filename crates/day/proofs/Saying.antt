@@ -7,8 +7,8 @@ use mathlib.Core.List.{List, [], ◌∷◌}
 use mathlib.Core.Option.{Option, none, some}
 use Rattle.rules.specs.Words.{At, at_first, at_later, things_from}
 use Rattle.rules.specs.Day.{Row, row_at}
-use Rattle.rules.specs.Laws.Good.{at_below}
-use Rattle.rules.specs.Laws.Written.{things_more, things_end}
+use Rattle.rules.proofs.Laws.Good.{at_below}
+use Rattle.rules.proofs.Laws.Written.{things_more, things_end}
 use Rattle.day.specs.Verdicts.{Refusal, first_said, said_or}
 
 module _ (says : (last : ℕ) → Row → Option ℕ) (list : List ℕ) (m i last : ℕ) where

@@ -11,7 +11,7 @@ use Rattle.rules.specs.Words.{Greatest, GreatestIfAny}
 use Rattle.rules.specs.Day.{Row, Ask, asker's_rows}
 use Rattle.rules.specs.Diameter.{Shown, NoneShown}
 use Rattle.rules.specs.Table.{Check, Takes, table, Clear, Refuses}
-use Rattle.rules.specs.Laws.Checks.{refuses_then, clear_both}
+use Rattle.rules.proofs.Laws.Checks.{refuses_then, clear_both}
 use Rattle.search.specs.declared.far.Far.{Far}
 use Rattle.figures.specs.declared.answers.Filled.{Filled}
 use Rattle.figures.specs.declared.answers.Filled.TheVariants as filled

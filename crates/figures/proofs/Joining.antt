@@ -12,18 +12,18 @@ use Rattle.passes.specs.Forward.{nowhere}
 use Rattle.passes.specs.Legs.{legs_of}
 use Rattle.passes.specs.Pivots.{onward_pivot, into_pivot}
 use Rattle.passes.specs.Backward.{distances_to}
-use Rattle.passes.specs.Laws.Chains.{rows_day}
-use Rattle.passes.specs.Laws.Backward.{distances_right}
+use Rattle.passes.specs.Days.{rows_day}
+use Rattle.passes.proofs.Laws.Backward.{distances_right}
 use Rattle.search.specs.Targets.{before_all}
 use Rattle.search.specs.Visits.{begun, searched}
 use Rattle.search.specs.Farthest.{farthest_in}
 use Rattle.search.specs.Pivots.{LaidOut, bounds_under, joinedb, kept_at, kept_joined}
-use Rattle.search.specs.Laws.Pairs.{ReachedJoined}
-use Rattle.search.specs.Laws.Visiting.{IsFar, Right}
-use Rattle.search.specs.Laws.Order.{TellsBounds}
-use Rattle.search.specs.Laws.Entered.{bound_at}
-use Rattle.search.specs.Laws.Pivoted.{bounds_under_told, farthest_kept}
-use Rattle.search.specs.Laws.Searched.{pivot_diameter_searched}
+use Rattle.search.specs.Found.{ReachedJoined, Right}
+use Rattle.search.proofs.Laws.Visiting.{IsFar}
+use Rattle.search.proofs.Laws.Order.{TellsBounds}
+use Rattle.search.proofs.Laws.Entered.{bound_at}
+use Rattle.search.proofs.Laws.Pivoted.{bounds_under_told, farthest_kept}
+use Rattle.search.proofs.Laws.Searched.{pivot_diameter_searched}
 use Rattle.figures.specs.Answered.{far_kept}
 use Rattle.figures.specs.Parts.{Ready}
 use Rattle.figures.specs.Pivots.{AllSit}

@@ -7,7 +7,7 @@ use mathlib.Core.List.{List}
 use lib.ListN.{length}
 use Rattle.rules.specs.Day.{row_width, most_rows, rows_of}
 use Rattle.rules.specs.Table.{Check, check_2, Clear, Refuses}
-use Rattle.rules.specs.Laws.Rows.{length_rows}
+use Rattle.rules.proofs.Laws.Rows.{length_rows}
 use Rattle.day.specs.Verdicts.{Judges}
 use Rattle.day.specs.declared.faults.Verdict.{Verdict}
 use Rattle.day.specs.declared.faults.Verdict.TheVariants.{Fine, Refused}

@@ -10,10 +10,10 @@ use Rattle.rules.specs.Words.{Any, any_here, any_later}
 use Rattle.rules.specs.Day.{Row}
 use Rattle.rules.specs.Pivots.{pivots_of, Astray, no_stop, too_early, too_late}
 use Rattle.rules.specs.Table.{Check, Room, Unrouted, check_8, check_9, check_10, check_12, Clear, Refuses}
-use Rattle.rules.specs.Laws.Good.{at_below, none_if_no_least}
-use Rattle.rules.specs.Laws.Joined.{joined_has_route}
-use Rattle.rules.specs.Laws.Checks.{refuses_first, refuses_then, clear_both}
-use Rattle.passes.specs.Laws.Chains.{rows_day}
+use Rattle.rules.proofs.Laws.Good.{at_below, none_if_no_least}
+use Rattle.rules.proofs.Laws.Joined.{joined_has_route}
+use Rattle.rules.proofs.Laws.Checks.{refuses_first, refuses_then, clear_both}
+use Rattle.passes.specs.Days.{rows_day}
 use Rattle.figures.specs.Parts.{last_checks}
 use Rattle.figures.specs.Promises.{takes}
 use Rattle.figures.proofs.Judging.{passes}

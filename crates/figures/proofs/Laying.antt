@@ -8,31 +8,32 @@ use lib.Seq.{take_at}
 use Rattle.rules.specs.Day.{most_stops, most_rows, Row, rows_of}
 use Rattle.rules.specs.Diameter.{LatestEntry}
 use Rattle.rules.specs.Lent.{Fills, scratch_places, Wiped, Stands, Copied}
-use Rattle.rules.specs.Laws.Good.{Good, good_sound}
-use Rattle.rules.specs.Laws.Rows.{length_rows}
-use Rattle.rules.specs.Laws.Written.{copied_front}
-use Rattle.rules.specs.Laws.Filled.{fills_front}
+use Rattle.rules.proofs.Laws.Good.{good_sound}
+use Rattle.rules.specs.Faultless.{Good}
+use Rattle.rules.proofs.Laws.Rows.{length_rows}
+use Rattle.rules.proofs.Laws.Written.{copied_front}
+use Rattle.rules.proofs.Laws.Filled.{fills_front}
 use Rattle.passes.specs.Legs.{leg_width, legs_of, leg_numbers, leg_numbers_of, legs_in, Laid}
 use Rattle.passes.specs.Forward.{init, passed, stretches, stretch_of}
 use Rattle.passes.specs.Links.{Orderly, Linked}
 use Rattle.passes.specs.Backward.{distances_to}
-use Rattle.passes.specs.Laws.Links.{good_for_more}
-use Rattle.passes.specs.Laws.Backward.{length_distances, distances_right}
-use Rattle.passes.specs.Laws.Chains.{rows_day}
-use Rattle.passes.specs.Laws.Legs.{legs_good, legs_fewer, legs_read, legs_laid}
-use Rattle.passes.specs.Laws.Passed.{passed_length, passed_stands, init_long}
-use Rattle.passes.specs.Laws.Stretches.{length_stretches, stretch_place}
+use Rattle.passes.proofs.Laws.Links.{good_for_more}
+use Rattle.passes.proofs.Laws.Backward.{length_distances, distances_right}
+use Rattle.passes.specs.Days.{rows_day}
+use Rattle.passes.proofs.Laws.Legs.{legs_good, legs_fewer, legs_read, legs_laid}
+use Rattle.passes.proofs.Laws.Passed.{passed_length, passed_stands, init_long}
+use Rattle.passes.proofs.Laws.Stretches.{length_stretches, stretch_place}
 use Rattle.search.specs.Farthest.{farthest_in}
 use Rattle.search.specs.Bounds.{bounds_of}
 use Rattle.search.specs.Targets.{before_all}
 use Rattle.search.specs.Visits.{begun, searched}
-use Rattle.search.specs.Laws.Pairs.{ReachedPairs}
-use Rattle.search.specs.Laws.Visiting.{IsFar, Right}
-use Rattle.search.specs.Laws.Order.{TellsBounds}
-use Rattle.search.specs.Laws.Entered.{bound_at, entries_told}
-use Rattle.search.specs.Laws.Searched.{diameter_searched}
-use Rattle.search.specs.Laws.Farthest.{farthest_is_far, distances_told, forward_told}
-use Rattle.search.specs.Laws.Bounded.{pair_positive}
+use Rattle.search.specs.Found.{ReachedPairs, Right}
+use Rattle.search.proofs.Laws.Visiting.{IsFar}
+use Rattle.search.proofs.Laws.Order.{TellsBounds}
+use Rattle.search.proofs.Laws.Entered.{bound_at, entries_told}
+use Rattle.search.proofs.Laws.Searched.{diameter_searched}
+use Rattle.search.proofs.Laws.Farthest.{farthest_is_far, distances_told, forward_told}
+use Rattle.search.proofs.Laws.Bounded.{pair_positive}
 use Rattle.figures.specs.Answered.{far_in}
 use Rattle.figures.specs.Parts.{Ready, LegsLaid, Stretched}
 

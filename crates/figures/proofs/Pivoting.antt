@@ -13,8 +13,8 @@ use Rattle.rules.specs.Clock.{horizon}
 use Rattle.rules.specs.Words.{Least, At, at_first, at_later}
 use Rattle.rules.specs.Pivots.{Pivot, most_pivots, pivots_of, Astray, no_stop, too_early, too_late}
 use Rattle.rules.specs.Table.{Check, check_8, check_9, Clear}
-use Rattle.rules.specs.Laws.Good.{at_same, at_below, none_if_no_least}
-use Rattle.rules.specs.Laws.Joined.{none_astray_sits}
+use Rattle.rules.proofs.Laws.Good.{at_same, at_below, none_if_no_least}
+use Rattle.rules.proofs.Laws.Joined.{none_astray_sits}
 use Rattle.day.specs.Verdicts.{Judges}
 use Rattle.day.specs.declared.faults.Verdict.{Verdict}
 use Rattle.day.specs.declared.faults.Verdict.TheVariants.{Fine, Refused}

@@ -9,8 +9,8 @@ use lib.ListN.{length, get_or, take, drop, length-append, length-drop, drop_of_l
 use lib.Seq.{get_or-append-add, get_or-drop, get_or-take, length-take-le, take_all, drop-drop}
 use Rattle.rules.specs.Day.{most_stops}
 use Rattle.rules.specs.Pivots.{Pivot, pivots_of}
-use Rattle.rules.specs.Laws.Good.{at_same, at_below, at_member}
-use Rattle.rules.specs.Laws.Joined.{Sits}
+use Rattle.rules.proofs.Laws.Good.{at_same, at_below, at_member}
+use Rattle.rules.specs.Faultless.{Sits}
 use Rattle.search.specs.Pivots.{pivot_number, pivot_places, LaidOut, Apart}
 use Rattle.figures.specs.Pivots.{pivot_width, AllSit, put_at}
 use Rattle.figures.proofs.Pivoting.{pivot_at, pivots_at, length_pivots}

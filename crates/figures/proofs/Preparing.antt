@@ -11,11 +11,11 @@ use Rattle.rules.specs.Day.{most_stops, most_rows, row_width, rows_of, Faulty, A
 use Rattle.rules.specs.Struck.{numbers, numbers_of}
 use Rattle.rules.specs.Lent.{Copied}
 use Rattle.rules.specs.Table.{Takes, check_1, check_2, table, Clear, Refuses}
-use Rattle.rules.specs.Laws.Good.{none_if_no_least, faultless_good}
-use Rattle.rules.specs.Laws.Rows.{length_rows, length_numbers, rows_of_numbers}
-use Rattle.rules.specs.Laws.Isolated.{own_shorter}
-use Rattle.rules.specs.Laws.Checks.{refuses_first}
-use Rattle.rules.specs.Laws.Written.{copied_front}
+use Rattle.rules.proofs.Laws.Good.{none_if_no_least, faultless_good}
+use Rattle.rules.proofs.Laws.Rows.{length_rows, length_numbers, rows_of_numbers}
+use Rattle.rules.proofs.Laws.Isolated.{own_shorter}
+use Rattle.rules.proofs.Laws.Checks.{refuses_first}
+use Rattle.rules.proofs.Laws.Written.{copied_front}
 use Rattle.figures.specs.declared.ask.Prepared.{Prepared}
 use Rattle.figures.specs.declared.ask.Prepared.TheVariants as prepared
 use Rattle.figures.specs.Parts.{first_checks, last_checks, Ready, Prepares}

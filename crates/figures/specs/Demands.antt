@@ -15,7 +15,7 @@ use Rattle.rules.specs.Table.{Check, table, office_table, Refuses}
 use Rattle.rules.specs.Lent.{Fills, scratch_places, Wiped}
 use Rattle.rules.specs.Figures.{DistanceOf, TableOf, Pairs, Bounds, JoinedPairs, PivotBounds}
 use Rattle.rules.specs.Struck.{Fit, struck, SameToAsker}
-use Rattle.rules.specs.Laws.Single.{table_one_place}
+use Rattle.rules.proofs.Laws.Single.{table_one_place}
 use Rattle.figures.specs.declared.answers.Filled.{Filled}
 use Rattle.figures.specs.declared.answers.Filled.TheVariants as filled
 use Rattle.figures.specs.declared.answers.Eccentricity.{Eccentricity}

@@ -6,10 +6,10 @@ use Rattle.rules.specs.Pivots.{pivots_of}
 use Rattle.rules.specs.Struck.{numbers}
 use Rattle.rules.specs.Lent.{Stands, Copied}
 use Rattle.rules.specs.Table.{Check, Takes, check_1, check_2, check_3, check_4, check_5, check_6, check_7, check_8, check_9, check_10, check_12, Clear, Refuses}
-use Rattle.rules.specs.Laws.Good.{Good}
+use Rattle.rules.specs.Faultless.{Good}
 use Rattle.passes.specs.Legs.{leg_width, leg_numbers, legs_of}
 use Rattle.passes.specs.Links.{Links}
-use Rattle.passes.specs.Laws.Chains.{rows_day}
+use Rattle.passes.specs.Days.{rows_day}
 use Rattle.figures.specs.declared.ask.Prepared.{Prepared}
 use Rattle.figures.specs.declared.ask.Prepared.TheVariants as prepared
 

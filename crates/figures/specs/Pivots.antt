@@ -2,7 +2,7 @@
 use Rattle.std.specs.Prelude.{ℕ, ◌+◌, Bool, true, cond, leb, ltb, take, drop}
 use mathlib.Core.List.{List, ◌++◌, Memᴰ}
 use Rattle.rules.specs.Pivots.{Pivot, pivots_of}
-use Rattle.rules.specs.Laws.Joined.{Sits}
+use Rattle.rules.specs.Faultless.{Sits}
 
 abbrev pub pivot_width : ℕ
 pivot_width = 2

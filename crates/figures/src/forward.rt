@@ -3,8 +3,8 @@ ghost use Rattle.std.specs.Prelude.{◌≡◌, [], ◌∷◌, ◌*◌};
 ghost use Rattle.rules.specs.Day.{rows_of};
 ghost use Rattle.rules.specs.Eccentricity.{Forward};
 ghost use Rattle.rules.specs.Lent.{Fills, Stands};
-ghost use Rattle.passes.specs.Laws.Chains.{rows_day};
-ghost use Rattle.search.specs.Laws.Pairs.{ReachedPairs};
+ghost use Rattle.passes.specs.Days.{rows_day};
+ghost use Rattle.search.specs.Found.{ReachedPairs};
 ghost use Rattle.figures.specs.Parts.{Ready, last_checks, Stretched};
 ghost use Rattle.figures.specs.Promises.{ask, room, takes, Fulfils, FulfilsEccentricity, DistancesFromPromise, TablePromise, ForwardEccentricityPromise};
 

@@ -3,9 +3,8 @@ ghost use Rattle.std.specs.Prelude.{◌≡◌, [], ◌∷◌, ◌/◌, ◌≤◌
 ghost use Rattle.rules.specs.Day.{rows_of};
 ghost use Rattle.rules.specs.Pivots.{most_pivots, pivots_of, LatestUnder};
 ghost use Rattle.rules.specs.Lent.{scratch_places, Wiped};
-ghost use Rattle.passes.specs.Laws.Chains.{rows_day};
-ghost use Rattle.search.specs.Laws.Pairs.{ReachedJoined};
-ghost use Rattle.search.specs.Laws.Visiting.{Right};
+ghost use Rattle.passes.specs.Days.{rows_day};
+ghost use Rattle.search.specs.Found.{ReachedJoined, Right};
 ghost use Rattle.figures.specs.Parts.{Ready, last_checks};
 ghost use Rattle.figures.specs.Pivots.{pivot_width, AllSit};
 ghost use Rattle.figures.specs.Promises.{ask, room, takes, FulfilsSearch, PivotDiameterPromise};

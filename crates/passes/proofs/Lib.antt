@@ -5,3 +5,4 @@ pub mod Linking
 pub mod Sweeping
 pub mod Filling
 pub mod Reaching
+pub mod Laws

@@ -9,7 +9,7 @@ use lib.Seq.{get_or-set_same, get_or-set_other, set_out}
 use Rattle.rules.specs.Day.{arrival, Sound, most_stops, most_rows}
 use Rattle.passes.specs.Legs.{leg_width}
 use Rattle.passes.specs.Links.{link_places, leg_count, leg_no, Orderly, first_past, onward, Jump, Chained, Twice, to_next, to_second, AllMost, Linked, Beside}
-use Rattle.passes.specs.Laws.Links.{none_past, first_leaves, first_missed, first_hit, onward_first, leg_sound}
+use Rattle.passes.proofs.Laws.Links.{none_past, first_leaves, first_missed, first_hit, onward_first, leg_sound}
 
 -- what holds at each number above k, and of what is stored at k, holds at each number above k - 1
 pub stored : (P : ℕ → ℕ → Type 0) (m k v : ℕ) (xs : List ℕ) → k < length xs → ((x : ℕ) → k < x → x ≤ m → P x (get_or xs x 0)) → P k v → (x : ℕ) → k - 1 < x → x ≤ m → P x (get_or (set xs k v) x 0)

@@ -6,10 +6,10 @@ use mathlib.Core.List.{List}
 use lib.ListN.{length, get_or}
 use Rattle.rules.specs.Words.{things_from}
 use Rattle.rules.specs.Day.{Row, arrival}
-use Rattle.rules.specs.Laws.Written.{things_more, things_member}
+use Rattle.rules.proofs.Laws.Written.{things_more, things_member}
 use Rattle.passes.specs.Legs.{leg_width, leg_at, legs_in, Laid, LegRead}
 use Rattle.passes.specs.Forward.{relaxed, passed}
-use Rattle.passes.specs.Laws.Passed.{Inside}
+use Rattle.passes.proofs.Laws.Passed.{Inside}
 use Rattle.passes.specs.declared.legs.Leg.{Leg}
 
 pub passed_next : (list : List ℕ) (m j : ℕ) (l : Leg) (st : List ℕ) → j < m → LegRead list j l → get_or list (j * leg_width + 2) 0 ≤ get_or list (j * leg_width + 3) 0

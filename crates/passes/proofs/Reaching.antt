@@ -6,7 +6,7 @@ use mathlib.Core.List.{List}
 use lib.ListN.{get_or}
 use Rattle.rules.specs.Words.{things_from}
 use Rattle.rules.specs.Day.{Row, arrival}
-use Rattle.rules.specs.Laws.Written.{things_more}
+use Rattle.rules.proofs.Laws.Written.{things_more}
 use Rattle.passes.specs.Legs.{leg_width, leg_at, LegRead}
 use Rattle.passes.specs.Reach.{caught_by, reached_back}
 use Rattle.passes.specs.declared.legs.Leg.{Leg}

@@ -12,9 +12,9 @@ use Rattle.passes.specs.Legs.{leg_width}
 use Rattle.passes.specs.Forward.{nowhere}
 use Rattle.passes.specs.Links.{link_places, leg_count, leg_no, legs_past, Orderly, Threaded}
 use Rattle.passes.specs.Backward.{by, earliest, earliest_by, Swept}
-use Rattle.passes.specs.Laws.Links.{legs_past_more, first_leaves, leg_sound}
-use Rattle.passes.specs.Laws.Backward.{More, uses, skips, one_more}
-use Rattle.passes.specs.Laws.Swept.{swept_at}
+use Rattle.passes.proofs.Laws.Links.{legs_past_more, first_leaves, leg_sound}
+use Rattle.passes.proofs.Laws.Backward.{More, uses, skips, one_more}
+use Rattle.passes.proofs.Laws.Swept.{swept_at}
 use Rattle.passes.proofs.Linking.{stored}
 
 pub swept_none : (list : List ℕ) (v : ℕ) (best : List ℕ) → length best ≡ link_places → Swept list v (leg_count list) (set best 0 nowhere)

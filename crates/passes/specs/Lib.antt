@@ -5,4 +5,4 @@ pub mod Links
 pub mod Backward
 pub mod Reach
 pub mod Pivots
-pub mod Laws
+pub mod Days

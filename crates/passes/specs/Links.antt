@@ -1,7 +1,7 @@
 -- Links between legs. A leg goes by its number, one more than its place in the list; 0 stands for no leg.
 use Rattle.std.specs.Prelude.{ℕ, suc, ◌-◌, ◌/◌, ◌≤◌, ◌<◌, ◌≡◌, cond, ◌&&◌, List, [], ◌∷◌, eqb, leb, length, get_or}
 use Rattle.rules.specs.Day.{Row, arrival, most_stops, most_rows}
-use Rattle.rules.specs.Laws.Good.{Good}
+use Rattle.rules.specs.Faultless.{Good}
 use Rattle.rules.specs.Words.{things_from}
 use Rattle.passes.specs.Legs.{leg_width, leg_at, legs_in}
 

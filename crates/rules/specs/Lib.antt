@@ -10,4 +10,4 @@ pub mod Table
 pub mod Lent
 pub mod Figures
 pub mod Struck
-pub mod Laws
+pub mod Faultless

@@ -6,13 +6,13 @@ use mathlib.Core.List.{List, [], ◌∷◌, ◌++◌}
 use lib.ListN.{length, get_or, set, replicate, length-replicate, get_or-append}
 use lib.Seq.{set-append_left}
 use Rattle.rules.specs.Day.{Row, arrival, Sound}
-use Rattle.rules.specs.Laws.Good.{Good, good_more}
+use Rattle.rules.specs.Faultless.{Good, good_more}
 use Rattle.passes.specs.Forward.{nowhere}
 use Rattle.rules.specs.Words.{things_from}
-use Rattle.rules.specs.Laws.Written.{things_more}
+use Rattle.rules.proofs.Laws.Written.{things_more}
 use Rattle.passes.specs.Legs.{leg_width, leg_at}
 use Rattle.search.specs.Bounds.{later_of, entered, entered_by, bounds_of}
-use Rattle.search.specs.Laws.Entered.{entered_length}
+use Rattle.search.proofs.Laws.Entered.{entered_length}
 
 -- with j of m legs entered: the legs left give from here the bounds that all give
 pub record Entering (n : ℕ) (legs old : List ℕ) (m : ℕ) (out : List ℕ) (j : ℕ) : Type 0 where

@@ -5,4 +5,4 @@ pub mod Bounds
 pub mod Targets
 pub mod Visits
 pub mod Pivots
-pub mod Laws
+pub mod Found

@@ -1,6 +1,6 @@
 // The bounds of targets, from the legs that enter them.
 ghost use Rattle.std.specs.Prelude.{◌≡◌, ◌++◌, ◌≤◌, ◌<◌, length, get_or, set, drop, replicate};
-ghost use Rattle.rules.specs.Laws.Good.{Good};
+ghost use Rattle.rules.specs.Faultless.{Good};
 ghost use Rattle.passes.specs.Legs.{legs_in};
 ghost use Rattle.passes.specs.Forward.{nowhere};
 ghost use Rattle.search.specs.Bounds.{later_of, bounds_of};

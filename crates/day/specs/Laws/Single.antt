@@ -1,7 +1,7 @@
 -- A row read, and a verdict, are one.
 use Rattle.std.specs.Prelude.{◌≡◌, refl, List}
 use Rattle.rules.specs.Table.{Check}
-use Rattle.rules.specs.Laws.Single.{clear_or_refused, OnePlace, refusal_single}
+use Rattle.rules.proofs.Laws.Single.{clear_or_refused, OnePlace, refusal_single}
 use Rattle.day.specs.declared.row.Row as declared
 use Rattle.day.specs.declared.faults.Verdict.{Verdict}
 use Rattle.day.specs.declared.faults.Verdict.TheVariants.{Fine, Refused}

@@ -14,17 +14,18 @@ use Rattle.rules.specs.Pivots.{pivots_of}
 use Rattle.rules.specs.Table.{Check, Takes, table, office_table, Clear}
 use Rattle.rules.specs.Lent.{scratch_places, Wiped}
 use Rattle.rules.specs.Figures.{DistanceOf, TableOf, Pairs, Bounds, JoinedPairs, PivotBounds}
-use Rattle.rules.specs.Laws.Decided.{Settled, table_settled, office_settled, Accepted, accepted}
-use Rattle.rules.specs.Laws.Filled.{fill, fills, wiped}
-use Rattle.passes.specs.Laws.Distance.{dist, dist_right}
+use Rattle.rules.proofs.Laws.Decided.{Settled, table_settled, office_settled, Accepted, accepted}
+use Rattle.rules.proofs.Laws.Filled.{fill, fills, wiped}
+use Rattle.passes.proofs.Laws.Distance.{dist, dist_right}
 use Rattle.search.specs.Visits.{begun}
 use Rattle.search.specs.declared.state.Search.{Search}
-use Rattle.search.specs.Laws.Greatest.{ecc_to, ecc_from, forward_right, backward_right}
-use Rattle.search.specs.Laws.Order.{order}
-use Rattle.search.specs.Laws.Pairs.{pair_of, pairs_told, bound_of, pivot_bound_of}
-use Rattle.search.specs.Laws.Visiting.{run, Right}
-use Rattle.search.specs.Laws.Bounded.{farthest_of, farthest_joined}
-use Rattle.search.specs.Laws.Searched.{diameter_visited, pivot_diameter_visited}
+use Rattle.search.proofs.Laws.Greatest.{ecc_to, ecc_from, forward_right, backward_right}
+use Rattle.search.proofs.Laws.Order.{order}
+use Rattle.search.proofs.Laws.Pairs.{pair_of, pairs_told, bound_of, pivot_bound_of}
+use Rattle.search.proofs.Laws.Visiting.{run}
+use Rattle.search.specs.Found.{Right}
+use Rattle.search.proofs.Laws.Bounded.{farthest_of, farthest_joined}
+use Rattle.search.proofs.Laws.Searched.{diameter_visited, pivot_diameter_visited}
 use Rattle.figures.specs.declared.answers.Filled.{Filled}
 use Rattle.figures.specs.declared.answers.Filled.TheVariants as filled
 use Rattle.figures.specs.declared.answers.Eccentricity.{Eccentricity}

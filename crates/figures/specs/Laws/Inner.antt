@@ -4,14 +4,14 @@ use Rattle.std.proofs.Common.{ap, sym, ◌∙◌, subst, inl, inr}
 use Rattle.rules.specs.Day.{Row, Ask}
 use Rattle.rules.specs.Pivots.{pivots_of}
 use Rattle.rules.specs.Table.{check_8, check_9, Refuses}
-use Rattle.rules.specs.Laws.Checks.{refuses_first, refuses_then}
-use Rattle.rules.specs.Laws.Single.{least_single, zero_place, clear_or_refused, OnePlace, refusal_single}
-use Rattle.rules.specs.Laws.Written.{copied_single}
+use Rattle.rules.proofs.Laws.Checks.{refuses_first, refuses_then}
+use Rattle.rules.proofs.Laws.Single.{least_single, zero_place, clear_or_refused, OnePlace, refusal_single}
+use Rattle.rules.proofs.Laws.Written.{copied_single}
 use Rattle.day.specs.declared.faults.Verdict.{Verdict}
 use Rattle.day.specs.Verdicts.{Judges}
 use Rattle.day.specs.Laws.Single.{judges_single}
 use Rattle.passes.specs.Links.{Links}
-use Rattle.passes.specs.Laws.Single.{links_single}
+use Rattle.passes.proofs.Laws.Single.{links_single}
 use Rattle.figures.specs.declared.ask.Prepared.{Prepared}
 use Rattle.figures.specs.declared.ask.Prepared.TheVariants as prepared
 use Rattle.figures.specs.Parts.{list_checks, plain_checks, own_check, first_checks, Prepares, LegsLaid}

@@ -11,8 +11,8 @@ use Rattle.rules.specs.Pivots.{pivots_of, Joined, LatestUnder}
 use Rattle.rules.specs.Table.{Takes, table}
 use Rattle.rules.specs.Lent.{Fills, scratch_places, Wiped, Stands}
 use Rattle.rules.specs.Struck.{Fit, struck, SameToAsker}
-use Rattle.rules.specs.Laws.Isolated.{clear_carries, refusal_carries, same_back, same_to_struck}
-use Rattle.passes.specs.Laws.Chains.{rows_day}
+use Rattle.rules.proofs.Laws.Isolated.{clear_carries, refusal_carries, same_back, same_to_struck}
+use Rattle.passes.specs.Days.{rows_day}
 use Rattle.figures.specs.declared.answers.Filled.{Filled}
 use Rattle.figures.specs.declared.answers.Filled.TheVariants as filled
 use Rattle.figures.specs.declared.answers.Eccentricity.{Eccentricity}

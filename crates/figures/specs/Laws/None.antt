@@ -8,7 +8,7 @@ use Rattle.rules.specs.Pivots.{pivots_of, Joined}
 use Rattle.rules.specs.Lent.{scratch_places, Wiped}
 use Rattle.rules.specs.Table.{Check, Clear, table}
 use Rattle.rules.specs.Figures.{Pairs, Bounds, JoinedPairs, PivotBounds}
-use Rattle.rules.specs.Laws.Routed.{counted_has_route, uncounted_has_no_route, uncounted_unjoined}
+use Rattle.rules.proofs.Laws.Routed.{counted_has_route, uncounted_has_no_route, uncounted_unjoined}
 use Rattle.figures.specs.declared.answers.Eccentricity.{Eccentricity}
 use Rattle.figures.specs.declared.answers.Eccentricity.TheVariants as eccentricity
 use Rattle.figures.specs.declared.answers.Answer.{Answer}

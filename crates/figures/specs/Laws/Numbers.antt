@@ -7,7 +7,7 @@ use Rattle.rules.specs.Diameter.{NoneShown, sorted_none, at_end}
 use Rattle.rules.specs.Pivots.{pivots_of}
 use Rattle.rules.specs.Table.{Takes, table}
 use Rattle.rules.specs.Figures.{JoinedPairs, PivotBounds}
-use Rattle.rules.specs.Laws.Joined.{never_12}
+use Rattle.rules.proofs.Laws.Joined.{never_12}
 use Rattle.figures.specs.declared.answers.Filled.TheVariants as filled
 use Rattle.figures.specs.declared.answers.Eccentricity.TheVariants as eccentricity
 use Rattle.figures.specs.declared.answers.Answer.TheVariants as answer

@@ -5,7 +5,7 @@ use Rattle.std.proofs.Common.{ap, subst}
 use Rattle.std.proofs.Math.Option.{Option}
 use Rattle.rules.specs.Day.{rows_of}
 use Rattle.rules.specs.Table.{Check, office_table, Clear, Refuses}
-use Rattle.rules.specs.Laws.Single.{clear_or_refused, OnePlace, refusal_single, office_one_place}
+use Rattle.rules.proofs.Laws.Single.{clear_or_refused, OnePlace, refusal_single, office_one_place}
 use Rattle.figures.specs.declared.answers.Filled.{Filled}
 use Rattle.figures.specs.declared.answers.Filled.TheVariants as filled
 use Rattle.figures.specs.declared.answers.Eccentricity.{Eccentricity}

@@ -10,10 +10,10 @@ use Rattle.rules.specs.Pivots.{pivots_of}
 use Rattle.rules.specs.Table.{Check, Takes, table, Clear}
 use Rattle.rules.specs.Lent.{scratch_places}
 use Rattle.rules.specs.Figures.{Pairs, Bounds, JoinedPairs, PivotBounds}
-use Rattle.rules.specs.Laws.Decided.{Accepted, accepted}
-use Rattle.rules.specs.Laws.Skipped.{AllVisited, all_visited, shown_unskipped, none_unskipped}
-use Rattle.search.specs.Laws.Greatest.{ecc_to, backward_right}
-use Rattle.search.specs.Laws.Pairs.{pair_of, pairs_told, bounds_told, joined_pair_of, joined_pairs_told, pivot_bounds_told}
+use Rattle.rules.proofs.Laws.Decided.{Accepted, accepted}
+use Rattle.rules.proofs.Laws.Skipped.{AllVisited, all_visited, shown_unskipped, none_unskipped}
+use Rattle.search.proofs.Laws.Greatest.{ecc_to, backward_right}
+use Rattle.search.proofs.Laws.Pairs.{pair_of, pairs_told, bounds_told, joined_pair_of, joined_pairs_told, pivot_bounds_told}
 use Rattle.figures.specs.declared.answers.Answer.{Answer}
 use Rattle.figures.specs.declared.answers.Answer.TheVariants as answer
 use Rattle.figures.specs.Promises.{room, takes, FulfilsSearch, DiameterPromise, PivotDiameterPromise}

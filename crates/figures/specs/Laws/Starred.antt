@@ -12,20 +12,20 @@ use Rattle.rules.specs.Eccentricity.{Forward, Backward}
 use Rattle.rules.specs.Diameter.{Targets, Shown, NoneShown}
 use Rattle.rules.specs.Pivots.{Pivot, pivots_of}
 use Rattle.rules.specs.Figures.{Pairs, Bounds, JoinedPairs, PivotBounds}
-use Rattle.rules.specs.Laws.Good.{Good, good_none, good_more}
-use Rattle.rules.specs.Laws.Joined.{Sits}
+use Rattle.rules.specs.Faultless.{Good, good_none, good_more, Sits}
 use Rattle.day.specs.Rows.{soundb, rightb}
 use Rattle.day.proofs.Sounding.{sound_of}
 use Rattle.passes.specs.Forward.{usable, step, pass, init}
-use Rattle.passes.specs.Laws.Distance.{since, dist, dist_right}
+use Rattle.passes.proofs.Laws.Distance.{since, dist, dist_right}
 use Rattle.search.specs.Visits.{begun, visited}
 use Rattle.search.specs.declared.state.Search.{Search}
-use Rattle.search.specs.Laws.Greatest.{greatest_of, stops, is_value, least_of, ecc_to, ecc_from, not_both, forward_right, backward_right}
-use Rattle.search.specs.Laws.Order.{insert, order, order_right}
-use Rattle.search.specs.Laws.Pairs.{both, pair_of, entry_of, bound_of, pairs_told, any_of, joinb, joined_pair_of, under_of, pivot_bound_of, pivot_bounds_told}
-use Rattle.search.specs.Laws.Visiting.{run, Right}
-use Rattle.search.specs.Laws.Bounded.{far_of, farthest_of, farthest_joined}
-use Rattle.search.specs.Laws.Searched.{diameter_visited, pivot_diameter_visited}
+use Rattle.search.proofs.Laws.Greatest.{greatest_of, stops, is_value, least_of, ecc_to, ecc_from, not_both, forward_right, backward_right}
+use Rattle.search.proofs.Laws.Order.{insert, order, order_right}
+use Rattle.search.proofs.Laws.Pairs.{both, pair_of, entry_of, bound_of, pairs_told, any_of, joinb, joined_pair_of, under_of, pivot_bound_of, pivot_bounds_told}
+use Rattle.search.proofs.Laws.Visiting.{run}
+use Rattle.search.specs.Found.{Right}
+use Rattle.search.proofs.Laws.Bounded.{far_of, farthest_of, farthest_joined}
+use Rattle.search.proofs.Laws.Searched.{diameter_visited, pivot_diameter_visited}
 use Rattle.figures.specs.Starred.{day_d, on_day_d, Case, distances_from_lem, forward, backward, diameter, pivot_diameter_lem, pivot_none, pivot_bound, pivot_targets, From, Holds, Each, starred}
 
 -- equal, for each kind of figure

@@ -6,7 +6,7 @@ use Rattle.rules.specs.Words.{GreatestIfAny}
 use Rattle.rules.specs.Day.{Ask}
 use Rattle.rules.specs.Lent.{scratch_places}
 use Rattle.rules.specs.Table.{Check, office_table, Clear, Refuses, table}
-use Rattle.rules.specs.Laws.Single.{greatest_single, stands_single, fills_single, wiped_single, stretch_single, shown_single, none_single, shown_or_none, clear_or_refused, OnePlace, refusal_single, table_one_place, office_one_place}
+use Rattle.rules.proofs.Laws.Single.{greatest_single, stands_single, fills_single, wiped_single, stretch_single, shown_single, none_single, shown_or_none, clear_or_refused, OnePlace, refusal_single, table_one_place, office_one_place}
 use Rattle.figures.specs.declared.answers.Filled.{Filled}
 use Rattle.figures.specs.declared.answers.Filled.TheVariants as filled
 use Rattle.figures.specs.declared.answers.Eccentricity.{Eccentricity}

@@ -15,8 +15,8 @@ use Rattle.figures.specs.Laws.Exists.{pivot_diameter_exists}
 use Rattle.frames.specs.declared.frame.Frame.{Frame}
 use Rattle.frames.specs.declared.frame.Frame.TheVariants as frame
 use Rattle.frames.specs.Text.{type_of, IsTextOf}
-use Rattle.frames.specs.Laws.Unique.{text_unique, promised}
-use Rattle.frames.specs.Laws.Exists.{read_exists}
+use Rattle.frames.proofs.Laws.Unique.{text_unique, promised}
+use Rattle.frames.proofs.Laws.Exists.{read_exists}
 use Rattle.printing.specs.Lines.{LineOf, words_of}
 use Rattle.printing.specs.Laws.Spelling.{line_exists}
 use Rattle.taking.specs.Known.{Known, nothing, with_stops, with_row, with_pivot, pivot_width, Zeros, Answered, Does, stops, row, pivot, asks, Tells, NoFrame}

@@ -4,7 +4,7 @@ use Rattle.std.proofs.Common.{arith, sym, ap, ◌∙◌, inl, inr, append-nil, a
 use Rattle.frames.specs.declared.frame.Frame.{Frame}
 use Rattle.frames.specs.declared.frame.Frame.TheVariants as frame
 use Rattle.frames.specs.Text.{type_of}
-use Rattle.frames.specs.Laws.Texts.{widths_for, total, text_length}
+use Rattle.frames.proofs.Laws.Texts.{widths_for, total, text_length}
 use Rattle.printing.specs.Lines.{newline, LineOf, frame_words}
 use Rattle.taking.specs.Known.{Known, nothing, NoFrame}
 use Rattle.taking.specs.Stream.{ended, left, last_line, lines_of, Taken, no_line, one_line, Stopped, at_this, at_later, Prints, to_end, to_stop}

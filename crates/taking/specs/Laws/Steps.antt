@@ -14,7 +14,7 @@ use Rattle.figures.specs.Promises.{PivotDiameterPromise}
 use Rattle.frames.specs.declared.frame.Frame.{Frame}
 use Rattle.frames.specs.declared.frame.Frame.TheVariants as frame
 use Rattle.frames.specs.Text.{type_of, IsTextOf, ReadPromise}
-use Rattle.frames.specs.Laws.Unique.{text_unique, promised}
+use Rattle.frames.proofs.Laws.Unique.{text_unique, promised}
 use Rattle.printing.specs.Lines.{frame_words}
 use Rattle.printing.specs.Parts.{PutsLine}
 use Rattle.printing.specs.Laws.Puts.{puts_none}

@@ -7,7 +7,7 @@ use Rattle.figures.specs.Promises.{ask, PivotDiameterPromise}
 use Rattle.figures.specs.Laws.Unique.{pivot_diameter_unique}
 use Rattle.frames.specs.declared.frame.Frame.{Frame}
 use Rattle.frames.specs.declared.frame.Frame.TheVariants as frame
-use Rattle.frames.specs.Laws.Unique.{text_unique}
+use Rattle.frames.proofs.Laws.Unique.{text_unique}
 use Rattle.printing.specs.Lines.{LineOf, header_words, words_of, frame_words}
 use Rattle.printing.specs.Laws.Spelling.{line_single}
 use Rattle.taking.specs.Known.{Known, Zeros, Answered, Does, stops, row, pivot, asks, Tells}

@@ -6,7 +6,7 @@ use lib.ListN.{length}
 use Rattle.rules.specs.Day.{Row, row_width, row_at, sees, own}
 use Rattle.rules.specs.Struck.{numbers}
 use Rattle.rules.specs.Lent.{Kept}
-use Rattle.rules.specs.Laws.Written.{things_more, things_end, copy_none, copy_step, copy_end, kept_most}
+use Rattle.rules.proofs.Laws.Written.{things_more, things_end, copy_none, copy_step, copy_end, kept_most}
 use Rattle.day.proofs.own.own_rows.Goals as goal
 
 pub loop-i-init : goal.loop-i-init

@@ -3,7 +3,7 @@ use Prim.Native.Nat.{◌-◌, ◌≤◌}
 use Rattle.rules.specs.Words.{things_from}
 use Rattle.rules.specs.Day.{row_width, row_at, rows_of, own}
 use Rattle.rules.specs.Struck.{numbers}
-use Rattle.rules.specs.Laws.Written.{Copying}
+use Rattle.rules.proofs.Laws.Written.{Copying}
 use Rattle.day.proofs.own.own_rows.Given as goal
 
 abbrev pub invariant-loop-i : goal.invariant-loop-i

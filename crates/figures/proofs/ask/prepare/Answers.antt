@@ -7,9 +7,9 @@ use native.Mathlib.Omega.{arith}
 use lib.ListN.{length-take}
 use Rattle.rules.specs.Day.{row_width, Row, rows_of, asker's_rows}
 use Rattle.rules.specs.Struck.{numbers}
-use Rattle.rules.specs.Laws.Checks.{clear_both}
-use Rattle.rules.specs.Laws.Rows.{rows_of_numbers}
-use Rattle.rules.specs.Laws.Written.{copied_front}
+use Rattle.rules.proofs.Laws.Checks.{clear_both}
+use Rattle.rules.proofs.Laws.Rows.{rows_of_numbers}
+use Rattle.rules.proofs.Laws.Written.{copied_front}
 use Rattle.day.specs.Verdicts.{verdict_of, first_said, fault_says}
 use Rattle.day.proofs.Judging.{fault_judges}
 use Rattle.figures.specs.Parts.{plain_checks, own_check}

@@ -5,7 +5,7 @@ use mathlib.Core.Path.{◌≡◌, refl}
 use mathlib.Core.List.{[], ◌∷◌}
 use Rattle.rules.specs.Eccentricity.{Backward}
 use Rattle.rules.specs.Lent.{scratch_places, Wiped}
-use Rattle.search.specs.Laws.Pairs.{ReachedPairs}
+use Rattle.search.specs.Found.{ReachedPairs}
 use Rattle.figures.specs.Promises.{ask, room, takes, BackwardEccentricityPromise}
 use Rattle.figures.proofs.Preparing.{told_rows, told_unprepared, rows_few, part_rows, part_ready}
 use Rattle.figures.proofs.Answering.{then_eccentricity}

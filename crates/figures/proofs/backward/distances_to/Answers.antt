@@ -4,7 +4,7 @@ use native.Mathlib.Omega.{arith}
 use mathlib.Core.Path.{◌≡◌, refl}
 use mathlib.Core.List.{[], ◌∷◌}
 use Rattle.rules.specs.Lent.{Fills, scratch_places, Wiped, Stands}
-use Rattle.passes.specs.Laws.Chains.{rows_day}
+use Rattle.passes.specs.Days.{rows_day}
 use Rattle.figures.specs.Promises.{ask, room, takes, DistancesToPromise}
 use Rattle.figures.proofs.Preparing.{told_rows, told_unprepared, rows_few, part_rows, part_ready}
 use Rattle.figures.proofs.Answering.{then_fulfils}

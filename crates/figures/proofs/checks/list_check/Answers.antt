@@ -2,7 +2,7 @@
 use mathlib.Core.Path.{refl}
 use mathlib.Core.Logic.{inl, inr}
 use native.Mathlib.Omega.{arith}
-use Rattle.rules.specs.Laws.Rows.{length_rows}
+use Rattle.rules.proofs.Laws.Rows.{length_rows}
 use Rattle.figures.proofs.Judging.{passes}
 use Rattle.figures.proofs.checks.list_check.Goals as goal
 

@@ -4,7 +4,7 @@ use mathlib.Core.Logic.{inl, inr}
 use mathlib.Core.List.{[], ◌∷◌}
 use native.Mathlib.Omega.{arith}
 use Rattle.rules.specs.Table.{check_4, check_5}
-use Rattle.rules.specs.Laws.Checks.{refuses_first, refuses_then, clear_both}
+use Rattle.rules.proofs.Laws.Checks.{refuses_first, refuses_then, clear_both}
 use Rattle.clock.proofs.Laws.{made_at, made_past}
 use Rattle.figures.specs.Parts.{list_checks}
 use Rattle.figures.proofs.Judging.{passes, told_fine, told_refused}

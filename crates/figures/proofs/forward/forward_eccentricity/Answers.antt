@@ -3,7 +3,7 @@ use Prim.Native.Nat.{◌*◌, ◌-◌}
 use native.Mathlib.Omega.{arith}
 use mathlib.Core.List.{[], ◌∷◌}
 use Rattle.rules.specs.Eccentricity.{Forward}
-use Rattle.search.specs.Laws.Pairs.{ReachedPairs}
+use Rattle.search.specs.Found.{ReachedPairs}
 use Rattle.figures.specs.Promises.{ask, takes, ForwardEccentricityPromise}
 use Rattle.figures.proofs.Preparing.{told_rows, told_unprepared, rows_few, part_rows, part_ready}
 use Rattle.figures.proofs.Answering.{then_eccentricity}

@@ -7,8 +7,8 @@ use Rattle.rules.specs.Clock.{horizon}
 use Rattle.figures.proofs.Pivoting.{pivot_at, length_pivots}
 use Rattle.figures.proofs.Placing.{place_more, place_end, apart_more, apart_none, pivot_sits}
 use Rattle.passes.specs.Forward.{init, passed}
-use Rattle.passes.specs.Laws.Passed.{passed_length, init_long}
-use Rattle.passes.specs.Laws.Reach.{reached_back_length, reach_init_long}
+use Rattle.passes.proofs.Laws.Passed.{passed_length, init_long}
+use Rattle.passes.proofs.Laws.Reach.{reached_back_length, reach_init_long}
 use Rattle.passes.specs.Legs.{legs_in}
 use Rattle.passes.specs.Pivots.{onward_pivot, into_pivot}
 use Rattle.passes.specs.Reach.{reach_init, reached_back}

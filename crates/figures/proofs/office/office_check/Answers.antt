@@ -4,8 +4,8 @@ use Rattle.rules.specs.Table.{office_rows}
 use Rattle.day.proofs.Judging.{office_judges}
 use mathlib.Core.Path.{sym, ◌∙◌}
 use native.Mathlib.Omega.{arith}
-use Rattle.rules.specs.Laws.Rows.{length_rows}
-use Rattle.rules.specs.Laws.Checks.{refuses_first, refuses_then, clear_both}
+use Rattle.rules.proofs.Laws.Rows.{length_rows}
+use Rattle.rules.proofs.Laws.Checks.{refuses_first, refuses_then, clear_both}
 use Rattle.figures.proofs.Judging.{told_fine, told_refused, few_rows}
 use Rattle.figures.specs.Promises.{OfficePromise}
 use Rattle.figures.specs.Parts.{list_checks}

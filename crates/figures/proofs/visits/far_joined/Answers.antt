@@ -6,8 +6,8 @@ use mathlib.Core.Path.{ap, ◌∙◌}
 use mathlib.Core.List.{List}
 use Rattle.passes.specs.Legs.{legs_in}
 use Rattle.passes.specs.Backward.{distances_to}
-use Rattle.passes.specs.Laws.Backward.{length_distances}
-use Rattle.rules.specs.Laws.Written.{length_things}
+use Rattle.passes.proofs.Laws.Backward.{length_distances}
+use Rattle.rules.proofs.Laws.Written.{length_things}
 use Rattle.search.specs.Farthest.{farthest_in}
 use Rattle.search.specs.Pivots.{kept_at, kept_joined}
 use Rattle.figures.proofs.Laying.{front_part}

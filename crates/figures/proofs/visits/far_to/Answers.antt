@@ -7,7 +7,7 @@ use mathlib.Core.List.{List}
 use Prim.Native.Nat.{ℕ}
 use Rattle.passes.specs.Legs.{legs_in}
 use Rattle.passes.specs.Backward.{distances_to}
-use Rattle.passes.specs.Laws.Backward.{length_distances}
+use Rattle.passes.proofs.Laws.Backward.{length_distances}
 use Rattle.search.specs.Farthest.{farthest_in}
 use Rattle.figures.proofs.visits.far_to.Goals as goal
 

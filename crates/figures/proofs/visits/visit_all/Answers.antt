@@ -1,7 +1,7 @@
 -- The loop: the search with the turns left, from here, ends as the search from the start.
 use mathlib.Core.Path.{sym, ◌∙◌}
 use Rattle.passes.specs.Legs.{legs_in}
-use Rattle.search.specs.Laws.Searched.{going_begun, going_visit, turns_over, targets_over, stops_there}
+use Rattle.search.proofs.Laws.Searched.{going_begun, going_visit, turns_over, targets_over, stops_there}
 use Rattle.figures.specs.Answered.{far_in}
 use Rattle.figures.proofs.visits.visit_all.Goals as goal
 

@@ -1,7 +1,7 @@
 -- The loop: the search with the turns left, from here, ends as the search from the start.
 use Prim.Native.Nat.{◌-◌}
 use Rattle.passes.specs.Legs.{legs_in}
-use Rattle.search.specs.Laws.Searched.{Going}
+use Rattle.search.proofs.Laws.Searched.{Going}
 use Rattle.figures.specs.Answered.{far_in}
 use Rattle.figures.proofs.visits.visit_all.Given as goal
 

@@ -5,8 +5,8 @@ use mathlib.Core.Path.{◌≡◌, refl}
 use mathlib.Core.List.{[], ◌∷◌}
 use Rattle.rules.specs.Diameter.{LatestEntry}
 use Rattle.rules.specs.Lent.{scratch_places, Wiped}
-use Rattle.passes.specs.Laws.Chains.{rows_day}
-use Rattle.search.specs.Laws.Pairs.{ReachedPairs}
+use Rattle.passes.specs.Days.{rows_day}
+use Rattle.search.specs.Found.{ReachedPairs}
 use Rattle.figures.specs.Promises.{ask, room, takes, DiameterPromise}
 use Rattle.figures.proofs.Preparing.{told_rows, told_unprepared, rows_few, part_rows, part_ready}
 use Rattle.figures.proofs.Answering.{then_search}

@@ -2,7 +2,7 @@
 use native.Mathlib.Omega.{arith}
 use lib.ListN.{get_or}
 use borrow.Author.Count.{below_more}
-use Rattle.frames.specs.Laws.Deciding.{so, not_so}
+use Rattle.frames.proofs.Laws.Deciding.{so, not_so}
 use Rattle.frames.specs.Parts.{IsDigit}
 use Rattle.frames.proofs.digits.all_digits.Goals as goal
 

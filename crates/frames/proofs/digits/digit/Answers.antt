@@ -1,5 +1,5 @@
 -- A digit lies in one of three ranges, and each has its own rule.
-use Rattle.frames.specs.Laws.Bytes.{figure, capital, letter, ranges}
+use Rattle.frames.proofs.Laws.Bytes.{figure, capital, letter, ranges}
 use Rattle.frames.proofs.digits.digit.Goals as goal
 
 pub returns-then-b-le57 : goal.returns-then-b-le57

@@ -1,6 +1,6 @@
 -- Each test tells one end of a range.
 use native.Mathlib.Omega.{arith}
-use Rattle.frames.specs.Laws.Bytes.{figure, capital, letter, ranges}
+use Rattle.frames.proofs.Laws.Bytes.{figure, capital, letter, ranges}
 use Rattle.frames.proofs.digits.is_digit.Goals as goal
 
 pub returns-then-b-lt48 : goal.returns-then-b-lt48

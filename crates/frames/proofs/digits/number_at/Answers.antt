@@ -2,7 +2,7 @@
 use Prim.Native.Nat.{ℕ}
 use native.Mathlib.Omega.{arith}
 use mathlib.Core.Path.{◌≡◌, subst}
-use Rattle.frames.specs.Laws.Places.{number_none, number_more, number_below}
+use Rattle.frames.proofs.Laws.Places.{number_none, number_more, number_below}
 use Rattle.frames.specs.Parts.{NumberAt}
 use Rattle.frames.proofs.digits.number_at.Goals as goal
 

@@ -1,6 +1,6 @@
 -- Each way out is one of the outcomes of a line.
-use Rattle.frames.specs.Laws.Deciding.{not_so}
-use Rattle.frames.specs.Laws.Outcomes.{too_short, no_digits, no_type}
+use Rattle.frames.proofs.Laws.Deciding.{not_so}
+use Rattle.frames.proofs.Laws.Outcomes.{too_short, no_digits, no_type}
 use Rattle.frames.specs.Parts.{AllDigits}
 use Rattle.frames.proofs.frame.read_frame.Goals as goal
 

@@ -1,6 +1,6 @@
 -- A line of 14 digits is the text of the frame; of another length it is no text.
-use Rattle.frames.specs.Laws.Outcomes.{reads_pivot, no_length}
-use Rattle.frames.specs.Laws.Texts.{widths_for, total}
+use Rattle.frames.proofs.Laws.Outcomes.{reads_pivot, no_length}
+use Rattle.frames.proofs.Laws.Texts.{widths_for, total}
 use Rattle.frames.proofs.frame.read_pivot.Goals as goal
 
 pub returns-then-line-ne14 : goal.returns-then-line-ne14

@@ -6,9 +6,9 @@ use lib.ListN.{get_or, length-set}
 use Rattle.passes.specs.Legs.{legs_in}
 use Rattle.passes.specs.Links.{link_places}
 use Rattle.passes.specs.Backward.{distances_to}
-use Rattle.passes.specs.Laws.Links.{head_within}
-use Rattle.passes.specs.Laws.Backward.{distances_at, length_distances}
-use Rattle.passes.specs.Laws.Swept.{swept_head}
+use Rattle.passes.proofs.Laws.Links.{head_within}
+use Rattle.passes.proofs.Laws.Backward.{distances_at, length_distances}
+use Rattle.passes.proofs.Laws.Swept.{swept_head}
 use Rattle.passes.proofs.Filling.{fill_one, fill_end}
 use Rattle.passes.proofs.backward.to_target.Goals as goal
 

@@ -3,10 +3,10 @@ use Prim.Native.Nat.{◌-◌, ◌/◌}
 use native.Mathlib.Omega.{arith}
 use mathlib.Core.Path.{◌≡◌, refl, sym, ◌∙◌, ap}
 use lib.ListN.{length}
-use Rattle.rules.specs.Laws.Written.{things_end}
+use Rattle.rules.proofs.Laws.Written.{things_end}
 use Rattle.passes.specs.Legs.{leg_at, legs_in}
 use Rattle.passes.specs.Forward.{init, passed}
-use Rattle.passes.specs.Laws.Passed.{passed_append, init_long}
+use Rattle.passes.proofs.Laws.Passed.{passed_append, init_long}
 use Rattle.passes.proofs.Passing.{passed_next, laid_inside}
 use Rattle.passes.proofs.forward.forward_pass.Goals as goal
 

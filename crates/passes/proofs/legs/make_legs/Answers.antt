@@ -5,7 +5,7 @@ use mathlib.Core.Path.{◌≡◌, refl, subst}
 use lib.ListN.{length}
 use Rattle.rules.specs.Day.{Row, row_at}
 use Rattle.rules.specs.Lent.{Kept}
-use Rattle.rules.specs.Laws.Written.{things_more, things_end, copy_none, copy_step, copy_end, kept_most}
+use Rattle.rules.proofs.Laws.Written.{things_more, things_end, copy_none, copy_step, copy_end, kept_most}
 use Rattle.passes.specs.Legs.{leg_width, leg_of, fitsb, legs_of, leg_numbers}
 use Rattle.passes.proofs.legs.make_legs.Goals as goal
 

@@ -2,7 +2,7 @@
 use Prim.Native.Nat.{◌-◌, ◌≤◌}
 use Rattle.rules.specs.Words.{things_from}
 use Rattle.rules.specs.Day.{row_at, rows_of}
-use Rattle.rules.specs.Laws.Written.{Copying}
+use Rattle.rules.proofs.Laws.Written.{Copying}
 use Rattle.passes.specs.Legs.{leg_width, legs_of, leg_numbers}
 use Rattle.passes.proofs.legs.make_legs.Given as goal
 

@@ -6,7 +6,7 @@ use mathlib.Core.Path.{◌≡◌, refl, sym, ◌∙◌}
 use mathlib.Core.List.{List}
 use Rattle.rules.specs.Day.{most_rows}
 use Rattle.passes.specs.Links.{link_places, leg_count, Jump, Chained}
-use Rattle.passes.specs.Laws.Links.{onward_here, farther_jump, farther_onward}
+use Rattle.passes.proofs.Laws.Links.{onward_here, farther_jump, farther_onward}
 use Rattle.passes.proofs.links.first_from.Goals as goal
 
 -- a jump leads closer to the end of the legs, and none is past it

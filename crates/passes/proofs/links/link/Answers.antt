@@ -5,7 +5,7 @@ use mathlib.Core.Path.{◌≡◌}
 use lib.ListN.{get_or}
 use Rattle.rules.specs.Day.{most_stops}
 use Rattle.passes.specs.Links.{link_places}
-use Rattle.passes.specs.Laws.Links.{leg_sound, head_within}
+use Rattle.passes.proofs.Laws.Links.{leg_sound, head_within}
 use Rattle.passes.proofs.Linking.{beside_one, beside_none, linking_none, link_one, head_chained}
 use Rattle.passes.proofs.links.link.Goals as goal
 

@@ -6,7 +6,7 @@ use lib.ListN.{length}
 use Rattle.rules.specs.Words.{things_from}
 use Rattle.passes.proofs.Passing.{laid_inside}
 use Rattle.passes.proofs.Reaching.{reached_next}
-use Rattle.passes.specs.Laws.Reach.{reached_back_append, reach_init_long}
+use Rattle.passes.proofs.Laws.Reach.{reached_back_append, reach_init_long}
 use Rattle.passes.specs.Legs.{legs_in}
 use Rattle.passes.specs.Reach.{reach_init, reached_back}
 use Rattle.passes.proofs.reach.reach_back.Goals as goal

@@ -5,8 +5,8 @@ use mathlib.Core.Path.{◌≡◌, refl, ◌∙◌}
 use lib.ListN.{length}
 use Rattle.passes.specs.Legs.{legs_in}
 use Rattle.passes.specs.Forward.{stretch_of, init}
-use Rattle.passes.specs.Laws.Passed.{passed_length, init_long}
-use Rattle.passes.specs.Laws.Stretches.{square, next_times, table_none, table_length, table_more}
+use Rattle.passes.proofs.Laws.Passed.{passed_length, init_long}
+use Rattle.passes.proofs.Laws.Stretches.{square, next_times, table_none, table_length, table_more}
 use Rattle.passes.proofs.table.fill_table.Goals as goal
 
 pub loop-u-init : goal.loop-u-init

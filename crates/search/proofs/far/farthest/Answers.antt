@@ -1,6 +1,6 @@
 -- The loop: the scan of the places left, from here, finds what the scan of all finds.
 use Rattle.search.specs.Farthest.{farthest_in}
-use Rattle.search.specs.Laws.Scan.{scan_none, scan_more, scan_end}
+use Rattle.search.proofs.Laws.Scan.{scan_none, scan_more, scan_end}
 use Rattle.search.proofs.far.farthest.Goals as goal
 
 pub loop-u-init : goal.loop-u-init

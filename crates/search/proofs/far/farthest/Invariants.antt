@@ -1,7 +1,7 @@
 -- The loop: the scan of the places left, from here, finds what the scan of all finds.
 use Prim.Native.Nat.{◌-◌}
 use Rattle.search.specs.Farthest.{nobody, far_step}
-use Rattle.search.specs.Laws.Scan.{Scanning}
+use Rattle.search.proofs.Laws.Scan.{Scanning}
 use Rattle.search.proofs.far.farthest.Given as goal
 
 abbrev pub invariant-loop-u : goal.invariant-loop-u

@@ -1,5 +1,5 @@
 -- The loop: the scan of the pivots left, from here, finds what the scan of all finds.
-use Rattle.search.specs.Laws.Scan.{scan_none, scan_more, scan_end}
+use Rattle.search.proofs.Laws.Scan.{scan_none, scan_more, scan_end}
 use Rattle.search.specs.Pivots.{bound_under}
 use Rattle.search.proofs.pivots.bound_under.Goals as goal
 

@@ -1,7 +1,7 @@
 -- The loop: the scan of the pivots left, from here, finds what the scan of all finds.
 use Prim.Native.Nat.{◌-◌}
 use Rattle.passes.specs.Forward.{nowhere}
-use Rattle.search.specs.Laws.Scan.{Scanning}
+use Rattle.search.proofs.Laws.Scan.{Scanning}
 use Rattle.search.specs.Pivots.{under_step}
 use Rattle.search.proofs.pivots.bound_under.Given as goal
 

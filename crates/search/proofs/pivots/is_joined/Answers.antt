@@ -1,6 +1,6 @@
 -- The loop: the pivots passed join nothing, and those left answer for all.
 use mathlib.Core.Path.{sym, ◌∙◌}
-use Rattle.search.specs.Laws.Some.{seek_none, seek_found, seek_more, seek_end}
+use Rattle.search.proofs.Laws.Some.{seek_none, seek_found, seek_more, seek_end}
 use Rattle.search.specs.Pivots.{joinedb}
 use Rattle.search.proofs.pivots.is_joined.Goals as goal
 

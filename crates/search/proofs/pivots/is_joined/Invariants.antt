@@ -1,6 +1,6 @@
 -- The loop: the pivots passed join nothing, and those left answer for all.
 use Prim.Native.Nat.{◌-◌}
-use Rattle.search.specs.Laws.Some.{Seeking}
+use Rattle.search.proofs.Laws.Some.{Seeking}
 use Rattle.search.specs.Pivots.{joins_at}
 use Rattle.search.proofs.pivots.is_joined.Given as goal
 

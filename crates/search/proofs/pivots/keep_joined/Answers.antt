@@ -2,10 +2,10 @@
 use native.Mathlib.Omega.{arith}
 use mathlib.Core.Path.{◌≡◌, refl, sym, ◌∙◌}
 use lib.ListN.{length-set}
-use Rattle.rules.specs.Laws.Written.{length_things}
+use Rattle.rules.proofs.Laws.Written.{length_things}
 use Rattle.passes.proofs.Filling.{fill_one, fill_end}
 use Rattle.search.proofs.Keeping.{fill_reads}
-use Rattle.search.specs.Laws.Places.{things_at}
+use Rattle.search.proofs.Laws.Places.{things_at}
 use Rattle.search.specs.Pivots.{kept_at, kept_joined}
 use Rattle.search.proofs.pivots.keep_joined.Goals as goal
 

@@ -2,9 +2,9 @@
 use native.Mathlib.Omega.{arith}
 use mathlib.Core.Path.{◌≡◌, refl, sym, ◌∙◌}
 use lib.ListN.{length-set}
-use Rattle.rules.specs.Laws.Written.{length_things}
+use Rattle.rules.proofs.Laws.Written.{length_things}
 use Rattle.passes.proofs.Filling.{fill_one, fill_end}
-use Rattle.search.specs.Laws.Places.{things_at}
+use Rattle.search.proofs.Laws.Places.{things_at}
 use Rattle.search.specs.Pivots.{bound_under, bounds_under}
 use Rattle.search.proofs.pivots.pivot_bounds.Goals as goal
 

@@ -1,6 +1,6 @@
 -- The loop: the scan of the stops left, from here, finds what the scan of all finds.
 use Rattle.search.specs.Targets.{next_in}
-use Rattle.search.specs.Laws.Scan.{scan_none, scan_more, scan_end}
+use Rattle.search.proofs.Laws.Scan.{scan_none, scan_more, scan_end}
 use Rattle.search.proofs.targets.next_target.Goals as goal
 
 pub loop-i-init : goal.loop-i-init

@@ -2,7 +2,7 @@
 use Prim.Native.Nat.{◌-◌}
 use Rattle.search.specs.declared.targets.Next.TheVariants.{End}
 use Rattle.search.specs.Targets.{next_step}
-use Rattle.search.specs.Laws.Scan.{Scanning}
+use Rattle.search.proofs.Laws.Scan.{Scanning}
 use Rattle.search.proofs.targets.next_target.Given as goal
 
 abbrev pub invariant-loop-i : goal.invariant-loop-i

@@ -1,0 +1,194 @@
+-- The lists laid out by pivot tell the bounds under the pivots, and which sources they join to a target.
+use Rattle.std.specs.Prelude.{ℕ, zero, suc, ◌+◌, ◌-◌, ◌≤◌, ◌<◌, ◌≡◌, ◌≢◌, ◌⊎◌, Bool, eqb, length, get_or}
+use native.Mathlib.Omega.{arith}
+use Rattle.std.proofs.Math.Path.{refl, ap}
+use Rattle.std.proofs.Common.{sym, ◌∙◌, inl, inr, eqb-true, eq-eqb, ne_eqb}
+use Rattle.std.proofs.Math.Bool.{true, false, cond}
+use mathlib.Core.List.{List, [], ◌∷◌, ◌++◌, Memᴰ}
+use Rattle.std.proofs.Math.Option.{Option, none, some}
+use Rattle.std.proofs.lemmas.Bool.{eqb-false}
+use Rattle.rules.specs.Words.{At, at_first, at_later}
+use Rattle.rules.specs.Clock.{horizon}
+use Rattle.rules.specs.Day.{Row}
+use Rattle.rules.specs.Routes.{unreached, after, Earliest}
+use Rattle.rules.specs.Pivots.{Pivot, Onward, Joined, LatestUnder}
+use Rattle.rules.specs.Lent.{Stands}
+use Rattle.rules.proofs.Laws.Single.{distance_single}
+use Rattle.rules.proofs.Laws.Good.{at_member, at_below}
+use Rattle.rules.specs.Faultless.{Good, Sits}
+use Rattle.passes.specs.Forward.{nowhere}
+use Rattle.passes.specs.Legs.{legs_of}
+use Rattle.passes.specs.Pivots.{onward_pivot, into_pivot}
+use Rattle.passes.specs.Days.{rows_day}
+use Rattle.passes.proofs.Laws.Distance.{since, dist}
+use Rattle.passes.proofs.Laws.Reach.{reach_back_right}
+use Rattle.passes.proofs.Laws.Onward.{onward_late, onward_is}
+use Rattle.search.specs.Bounds.{later_of}
+use Rattle.search.specs.Scan.{scan}
+use Rattle.search.specs.Pivots.{pivot_number, LaidOut, with_pivot, under_step, bound_under, bounds_under, joinsb, joins_at, joinedb, kept_at, kept_joined}
+use Rattle.search.proofs.Laws.Greatest.{greater, greatest_of, not_both}
+use Rattle.search.proofs.Laws.Order.{TellsBounds, tells_same}
+use Rattle.search.specs.Farthest.{farthest_in}
+use Rattle.search.proofs.Laws.Farthest.{farthest_is_far, joined_told}
+use Rattle.search.proofs.Laws.Visiting.{IsFar}
+use Rattle.search.proofs.Laws.Bounded.{pair_positive}
+use Rattle.search.proofs.Laws.Pairs.{from_pivot, under_of, pivot_bound_of, onward_dist, pivot_bounds_told, reached_yes, yes_reached, flip}
+use Rattle.search.specs.Found.{ReachedJoined}
+use Rattle.search.proofs.Laws.Entered.{if_bound, bound_at, later_bound, greater_none, greater_assoc}
+use Rattle.search.proofs.Laws.Some.{some_yes, of_some}
+use Rattle.search.proofs.Laws.Places.{things_before}
+
+-- pivot i of the list
+pub pivot_at_lem : (pivots : List Pivot) (i : ℕ) → i < length pivots → (p : Pivot) × At pivots i p
+pivot_at_lem [] i h = absurd (omega arith)
+pivot_at_lem (p ∷ ps) zero h = (p, at_first)
+pivot_at_lem (p ∷ ps) (suc i) h = let t = pivot_at_lem ps i (omega arith) in (t.0, at_later t.1)
+
+pub at_of : {p : Pivot} {pivots : List Pivot} → Memᴰ p pivots → (i : ℕ) × At pivots i p
+at_of (Memᴰ.head {xs = ys} e) = (0, rw e at_first)
+at_of (Memᴰ.tail m) = let t = at_of m in (suc t.0, at_later t.1)
+
+-- one pivot more is one more of which the greatest is taken
+with_pivot_lem : (bound number : ℕ) → if_bound (with_pivot bound number) ≡ greater (if_bound bound) (if_bound number)
+unfolding with_pivot
+with_pivot_lem bound number = go (eqb number nowhere) refl
+  where
+    go : (t : Bool) → eqb number nowhere ≡ t → if_bound (cond t bound (later_of bound number)) ≡ greater (if_bound bound) (cond t none (some number))
+    go true e = sym (greater_none (if_bound bound))
+    go false e = later_bound bound number (eqb-false number nowhere e)
+
+-- the scan of the pivots from pivot i on
+scan_greatest : (onward : List ℕ) (v : ℕ) (f : Pivot → Option ℕ) (ps : List Pivot) (i bound : ℕ)
+    → ((j : ℕ) (p : Pivot) → At ps j p → if_bound (pivot_number onward (j + i) v) ≡ f p)
+    → if_bound (scan (under_step onward v) (length ps) i bound) ≡ greater (if_bound bound) (greatest_of f ps)
+unfolding scan greatest_of
+scan_greatest onward v f [] i bound h = sym (greater_none (if_bound bound))
+scan_greatest onward v f (p ∷ ps) i bound h =
+    let z : 0 + i ≡ i = omega arith in
+    scan_greatest onward v f ps (suc i) (under_step onward v i bound) (λ j q a. let e : suc j + i ≡ j + suc i = omega arith in rw e at (h (suc j) q (at_later a)))
+    ∙ (ap (λ (x : Option ℕ). greater x (greatest_of f ps)) (with_pivot_lem bound (pivot_number onward i v) ∙ ap (greater (if_bound bound)) (rw z at (h 0 p at_first)))
+    ∙ greater_assoc (if_bound bound) (f p) (greatest_of f ps))
+
+data Joining (onward into : ℕ) : Bool → Type 0 where
+  it_joins : onward ≢ nowhere → into ≢ 0 → Joining onward into true
+  no_target : onward ≡ nowhere → Joining onward into false
+  no_source : into ≡ 0 → Joining onward into false
+
+joining : (onward into : ℕ) → Joining onward into (joinsb onward into)
+unfolding joinsb
+joining onward into = go (eqb onward nowhere) (eqb into 0) refl refl
+  where
+    go : (a b : Bool) → eqb onward nowhere ≡ a → eqb into 0 ≡ b → Joining onward into (cond a false (cond b false true))
+    go true b e f = no_target (eqb-true _ _ e)
+    go false true e f = no_source (eqb-true _ _ f)
+    go false false e f = it_joins (eqb-false _ _ e) (eqb-false _ _ f)
+
+module _ (rs : List Row) (A W n : ℕ) (g : Good n rs) (aw : A ≤ W) (wh : W ≤ horizon) (pivots : List Pivot) (sit : (p : Pivot) → Memᴰ p pivots → Sits n A W p) where
+  -- a pivot's number for v is v's bound under it
+  under_number : (p : Pivot) → Sits n A W p → (v : ℕ) → v < n → if_bound (get_or (onward_pivot n A (legs_of A W rs) p) v 0) ≡ under_of rs A W n v p
+  unfolding under_of since
+  under_number p s v l =
+      go (get_or (onward_pivot n A (legs_of A W rs) p) v 0) (onward_late rs A W n g wh p s v l) (onward_is rs A W n g wh p s v l)
+    where
+      go : (x : ℕ) → p.reading - A ≤ x → Earliest (rows_day rs) p.reading W p.stop v (since (p.reading - A) x)
+          → if_bound x ≡ from_pivot A p.reading (dist rs p.reading W n p.stop v)
+      go x low is = rw (distance_single (onward_dist rs A W n g aw wh pivots sit p s v) is) (pick (eqb x nowhere))
+        where
+          pick : (t : Bool) → cond t none (some x) ≡ from_pivot A p.reading (cond t unreached (after (x - (p.reading - A))))
+          pick true = refl
+          pick false = ap some (omega (arith, s.not_before))
+
+  module _ (onward : List ℕ) (on : LaidOut n pivots (onward_pivot n A (legs_of A W rs)) onward) where
+    -- the bounds list tells the bounds, whatever stands behind them
+    pub bounds_under_told : (t : List ℕ) → TellsBounds n (bound_at (bounds_under onward (length pivots) n ++ t)) (LatestUnder (rows_day rs) A W pivots)
+    unfolding bound_at bound_under pivot_bound_of
+    bounds_under_told t =
+        tells_same n (pivot_bound_of rs A W n pivots) (bound_at (bounds_under onward (length pivots) n ++ t)) same (pivot_bounds_told rs A W n g aw wh pivots sit)
+      where
+        one : (v : ℕ) → v < n → (j : ℕ) (p : Pivot) → At pivots j p → if_bound (pivot_number onward (j + 0) v) ≡ under_of rs A W n v p
+        one v l j p a =
+            let e : j + 0 ≡ j = omega arith in
+            rw (e, on.each j p a v l) (under_number p (sit p (at_member a)) v l)
+
+        same : (v : ℕ) → v < n → bound_at (bounds_under onward (length pivots) n ++ t) v ≡ pivot_bound_of rs A W n pivots v
+        same v l =
+            ap if_bound (things_before (bound_under onward (length pivots)) n t v l)
+            ∙ scan_greatest onward v (under_of rs A W n v) pivots 0 nowhere (one v l)
+
+    module _ (into : List ℕ) (in_time : LaidOut n pivots (into_pivot n A (legs_of A W rs)) into) (u v : ℕ) (un : u < n) (vn : v < n) (ne : u ≢ v) where
+      -- the pivot reaches v exactly where its number is not nowhere
+      onward_reaches : (p : Pivot) → Sits n A W p → get_or (onward_pivot n A (legs_of A W rs) p) v 0 ≢ nowhere → Onward (rows_day rs) W v p
+      unfolding since
+      onward_reaches p s h = flip (yes_reached (onward_is rs A W n g wh p s v vn) (rw (ne_eqb (get_or (onward_pivot n A (legs_of A W rs) p) v 0) nowhere h)))
+
+      reaches_onward : (p : Pivot) → Sits n A W p → Onward (rows_day rs) W v p → get_or (onward_pivot n A (legs_of A W rs) p) v 0 ≢ nowhere
+      unfolding since
+      reaches_onward p s h e =
+          not_both (reached_yes (onward_is rs A W n g wh p s v vn) (flip h)) (rw (eq-eqb (get_or (onward_pivot n A (legs_of A W rs) p) v 0) nowhere e))
+
+      -- the test of pivot i
+      joins_out : (i : ℕ) (p : Pivot) → At pivots i p → joins_at onward into v u i ≡ true → Joined (rows_day rs) A W pivots u v
+      joins_out i p a h = go (joining (pivot_number onward i v) (pivot_number into i u)) h
+        where
+          s : Sits n A W p
+          s = sit p (at_member a)
+
+          go : {b : Bool} → Joining (pivot_number onward i v) (pivot_number into i u) b → b ≡ true → Joined (rows_day rs) A W pivots u v
+          go (no_target e) k = not_both k refl
+          go (no_source e) k = not_both k refl
+          go (it_joins e f) k =
+              record {
+                pivot = p;
+                listed = at_member a;
+                joins =
+                    record {
+                      differ = ne;
+                      into = (reach_back_right rs A W n p u g s).0 (λ z. f (in_time.each i p a u un ∙ z));
+                      onward = onward_reaches p s (λ z. e (on.each i p a v vn ∙ z));
+                    };
+              }
+
+      joins_in : Joined (rows_day rs) A W pivots u v → joinedb onward into (length pivots) v u ≡ true
+      unfolding joinedb
+      joins_in j =
+          let t = at_of j.listed in
+          some_yes (joins_at onward into v u) (length pivots) 0 t.0 (omega arith) (omega (arith, at_below t.1)) (go t.0 t.1 (joining (pivot_number onward t.0 v) (pivot_number into t.0 u)))
+        where
+          p : Pivot
+          p = j.pivot
+
+          s : Sits n A W p
+          s = sit p j.listed
+
+          go : (i : ℕ) → At pivots i p → {b : Bool} → Joining (pivot_number onward i v) (pivot_number into i u) b → b ≡ true
+          go i a (it_joins e f) = refl
+          go i a (no_target e) = absurd (reaches_onward p s j.joins.onward (sym (on.each i p a v vn) ∙ e))
+          go i a (no_source e) = absurd ((reach_back_right rs A W n p u g s).1 j.joins.into (sym (in_time.each i p a u un) ∙ e))
+
+      joined_out : joinedb onward into (length pivots) v u ≡ true → Joined (rows_day rs) A W pivots u v
+      unfolding joinedb
+      joined_out h =
+          let t = of_some (joins_at onward into v u) (length pivots) 0 h in
+          let q = pivot_at_lem pivots t.0 (omega (arith, t.2)) in
+          joins_out t.0 q.0 q.1 t.3
+
+      -- what is kept for u: its distance where some pivot joins it to v, else nowhere
+      pub kept_told : (ds t : List ℕ) → Stands (rows_day rs) A W u v (get_or ds u 0)
+          → (Joined (rows_day rs) A W pivots u v × Stands (rows_day rs) A W u v (get_or (kept_joined onward into (length pivots) n v ds ++ t) u 0))
+          ⊎ ((Joined (rows_day rs) A W pivots u v → ⊥) × (get_or (kept_joined onward into (length pivots) n v ds ++ t) u 0 ≡ nowhere))
+      kept_told ds t stands = rw (things_before (kept_at onward into (length pivots) v ds) n t u un) (go (joinedb onward into (length pivots) v u) refl)
+        where
+          go : (b : Bool) → joinedb onward into (length pivots) v u ≡ b
+              → (Joined (rows_day rs) A W pivots u v × Stands (rows_day rs) A W u v (cond b (get_or ds u 0) nowhere))
+              ⊎ ((Joined (rows_day rs) A W pivots u v → ⊥) × (cond b (get_or ds u 0) nowhere ≡ nowhere))
+          go true e = inl (joined_out e, stands)
+          go false e = inr (λ j. not_both (joins_in j) e, refl)
+
+    -- so the farthest of what is kept is the farthest of the sources that pivots join to v
+    pub farthest_kept : (into : List ℕ) → LaidOut n pivots (into_pivot n A (legs_of A W rs)) into → (v : ℕ) → v < n → (ds t : List ℕ)
+        → ((u : ℕ) → u < n → Stands (rows_day rs) A W u v (get_or ds u 0))
+        → IsFar (ReachedJoined rs A W n pivots) v (farthest_in (kept_joined onward into (length pivots) n v ds ++ t) v n)
+    farthest_kept into in_time v vn ds t stand =
+        farthest_is_far n v (kept_joined onward into (length pivots) n v ds ++ t)
+        (joined_told (rows_day rs) A W n v wh vn (kept_joined onward into (length pivots) n v ds ++ t) pivots (λ u l ne. kept_told into in_time u v l vn ne ds t (stand u l)))
+        (λ u d p. pair_positive rs A W n g aw wh u v d p.0)
