@@ -49,9 +49,10 @@ expect "run where the check fails" 1 "not proved" env PATH="$path" "$made/old/ru
 mkdir "$made/other"
 printf '#!/usr/bin/env bash\necho other\n' >"$made/other/uname"
 chmod +x "$made/other/uname"
-expect "start on another processor" 1 \
-    "start: the Rattle toolchain that is installed here has no part for the processor other" \
-    env -u RATTLE_HOME PATH="$made/other:$path" tools/start "$old/figures_program"
+none="start: the Rattle toolchain that is installed here has no part for the processor other"
+other=(env -u RATTLE_HOME PATH="$made/other:$path")
+expect "start on another processor" 1 "$none" "${other[@]}" tools/start "$old/figures_program"
+expect "run on another processor" 1 "$none" "${other[@]}" "$made/old/run"
 
 # a limit ends what does not end by itself, and the processes that it started
 expect "a limit that is kept" 3 "" tools/limit 60 "the step" bash -c 'exit 3'

@@ -61,13 +61,13 @@ changed() {
 
 file=$copy/crates/figures/src/lib.rt
 : >"$CALLS.then"
-changed "the first time"
 mkdir "$made/other"
 printf '#!/usr/bin/env bash\necho other\n' >"$made/other/uname"
 chmod +x "$made/other/uname"
 PATH=$made/other:$PATH made 0 1 "a processor for which the toolchain has no part"
 [ "$(cat "$made/said")" = "library: the Rattle toolchain that is installed here has no part for the processor other" ] ||
     fail "on another processor it says: $(cat "$made/said")"
+changed "the first time"
 echo '// one more line' >>"$file"
 changed "a changed source"
 echo '// another line' >>"$file"
