@@ -48,7 +48,7 @@ class Measured:
     def __init__(self, folder):
         self.folder = folder
         self.rustc = words_of("RUSTC", "rustc")
-        self.library = os.environ.get("LIBRARY", os.path.join(ROOT, "target", "staticlib"))
+        self.library = os.environ.get("LIBRARY", os.path.join(ROOT, "crates", "figures_c", "out"))
         self.python = words_of("PYTHON", shlex.quote(sys.executable))
         self.run = words_of("RUN")
         valgrind = VALGRIND if shutil.which("valgrind") and not self.run else []
@@ -66,7 +66,7 @@ class Measured:
 
     def build(self):
         if not os.path.exists(os.path.join(self.library, "libfigures_c.a")):
-            raise Stop("the library is not built: run `rt staticlib figures_c`, or name its folder in LIBRARY")
+            raise Stop("the library is not built: run tools/library, or name its folder in LIBRARY")
         root = os.path.join(HERE, "measured", "main.rs")
         flags = ["--edition", "2021", "-C", "opt-level=3", "-C", "codegen-units=1"]
         link = ["-L", self.library, "-l", "static=figures_c"]

@@ -17,7 +17,7 @@ expect() {
 
 # the usual tools without rt, then with a command in its place but without a C compiler
 mkdir "$made/bare" "$made/rt"
-for tool in bash cat dirname env mktemp rm sed sleep tail tee timeout uname; do
+for tool in bash cat dirname env mktemp readlink rm sed sleep tail tee timeout uname; do
     ln -s "$(command -v "$tool")" "$made/bare/$tool"
 done
 missing="the Rattle toolchain is not installed here: put its command rt on the PATH"
@@ -35,14 +35,24 @@ expect "library without a C compiler" 1 "library: there is no C compiler here: i
     env PATH="$path" tools/library
 
 # where its check fails, run does not start a program that was built before
-mkdir -p "$made/old/target/bin" "$made/old/tools"
+old=$made/old/crates/figures_program/out
+mkdir -p "$old" "$made/old/tools"
 cp run "$made/old"
 cp tools/start "$made/old/tools"
-printf '#!/usr/bin/env bash\necho old\n' >"$made/old/target/bin/figures_program"
-chmod +x "$made/old/target/bin/figures_program"
-echo 'echo not proved; exit 1' >"$STAND_IN"
+printf '#!/usr/bin/env bash\necho old\n' >"$old/figures_program"
+chmod +x "$old/figures_program"
+echo 'echo not proved >&2; exit 1' >"$STAND_IN"
 expect "run where the check fails" 1 "not proved" env PATH="$path" "$made/old/run"
 [ ! -s "$made/printed" ] || fail "run where the check fails prints $(cat "$made/printed")"
+
+# on a processor for which the toolchain has no part, start says so
+mkdir "$made/other"
+printf '#!/usr/bin/env bash\necho other\n' >"$made/other/uname"
+chmod +x "$made/other/uname"
+none="start: the Rattle toolchain that is installed here has no part for the processor other"
+other=(env -u RATTLE_HOME PATH="$made/other:$path")
+expect "start on another processor" 1 "$none" "${other[@]}" tools/start "$old/figures_program"
+expect "run on another processor" 1 "$none" "${other[@]}" "$made/old/run"
 
 # a limit ends what does not end by itself, and the processes that it started
 expect "a limit that is kept" 3 "" tools/limit 60 "the step" bash -c 'exit 3'
@@ -62,9 +72,15 @@ tried() {
     [ "$(tail -n 1 "$made/printed")" = "$last" ] || fail "$what: the last line is $(tail -n 1 "$made/printed")"
 }
 passed='3 passed, 0 failed'
+ok='rt: ok; handles allowed: none; must-fail edits: 120 refused'
 tried "all in order" 0 "" "$passed" "echo talk; echo $passed" "echo the script"
 tried "an rt ci that fails" 1 "test: rt ci did not pass: $passed" talk "echo talk; echo $passed; exit 1" "echo the script"
 tried "a failed proof" 1 "test: rt ci did not pass: 2 passed, 1 failed" talk "echo talk; echo 2 passed, 1 failed" ""
+tried "edits that are all refused" 0 "" "$passed" "echo '$ok'; echo $passed" "echo the script"
+bad="$ok, 12 bad"
+tried "bad edits" 1 "test: must-fail edits that rt ci could not try: 12" "$bad" "echo '$bad'; echo $passed" "echo the script"
+bad="$ok, 1 of them only by a limit, 1 bad; every proof and must-fail edit was done in this run"
+tried "a bad edit" 1 "test: must-fail edits that rt ci could not try: 1" "$bad" "echo '$bad'; echo $passed" "echo the script"
 tried "an rt ci that says nothing" 1 "test: rt ci did not pass: " "" "" ""
 tried "an rt ci without an end" 1 "test: rt ci did not pass: rt ci did not end within 2 seconds" talk "echo talk; sleep 60" ""
 tried "a script that fails" 1 "test: tests/one.sh failed" "the script" "echo $passed" "echo the script; exit 1"

@@ -4,9 +4,9 @@ set -u
 # the last part of a pipe runs in this shell, so that it can note a failure
 shopt -s lastpipe
 cd "$(dirname "$0")/.." || exit 1
-bin=target/bin/figures_program
+bin=crates/figures_program/out/figures_program
 if [ ! -x "$bin" ]; then
-    echo "damaged: the figures program is not built: run rt check figures_program first" >&2
+    echo "damaged: the figures program is not built: run ./run </dev/null first" >&2
     exit 1
 fi
 

@@ -6,12 +6,17 @@
 need cc "a C compiler"
 library >/dev/null || exit 1
 
-export ARCHIVE=$PWD/target/staticlib/libfigures_c.a CALLS=$made/calls IDENTITY=$made/identity
+export ARCHIVE=$PWD/crates/figures_c/out/libfigures_c.a CALLS=$made/calls IDENTITY=$made/identity
 kit=$(dirname "$(dirname "$(readlink -f "$(command -v rt)")")")
 export RATTLE_HOME=${RATTLE_HOME:-$kit}
 copy=$made/copy
 mkdir -p "$copy/bindings" "$made/bin"
-cp -R crates crates.txt include tools "$copy"
+shopt -s extglob
+for crate in crates/*; do
+    mkdir -p "$copy/$crate"
+    cp -R "$crate"/!(out) "$copy/$crate"
+done
+cp -R crates.txt include tools "$copy"
 cp -R bindings/carry "$copy/bindings"
 echo 'the first toolchain' >"$IDENTITY"
 cat >"$made/bin/rt" <<'EOT'
@@ -19,9 +24,9 @@ cat >"$made/bin/rt" <<'EOT'
 if [ "$1" = version ]; then
     exec cat "$IDENTITY"
 fi
-echo "$*" >>"$CALLS"
-mkdir -p target/staticlib
-cp "$ARCHIVE" target/staticlib/libfigures_c.a
+echo "$(basename "$PWD"): $*" >>"$CALLS"
+mkdir -p out
+cp "$ARCHIVE" out/libfigures_c.a
 . "$CALLS.then"
 EOT
 chmod +x "$made/bin/rt"
@@ -39,7 +44,7 @@ made() {
     : >"$CALLS"
     folder=$(tools/limit 60 "library: $what" "$copy/tools/library" 2>"$made/said")
     got=$?
-    called=$(grep -c '^staticlib figures_c$' "$CALLS")
+    called=$(grep -c '^figures_c: lib$' "$CALLS")
     if [ "$got" -ne "$status" ] || [ "$called" -ne "$times" ]; then
         cat "$made/said" >&2
         fail "$what: rt was called $called times, and the status was $got"
@@ -56,6 +61,12 @@ changed() {
 
 file=$copy/crates/figures/src/lib.rt
 : >"$CALLS.then"
+mkdir "$made/other"
+printf '#!/usr/bin/env bash\necho other\n' >"$made/other/uname"
+chmod +x "$made/other/uname"
+PATH=$made/other:$PATH made 0 1 "a processor for which the toolchain has no part"
+[ "$(cat "$made/said")" = "library: the Rattle toolchain that is installed here has no part for the processor other" ] ||
+    fail "on another processor it says: $(cat "$made/said")"
 changed "the first time"
 echo '// one more line' >>"$file"
 changed "a changed source"
@@ -74,23 +85,28 @@ echo '# a word' >>"$copy/crates.txt"
 changed "a changed crates.txt"
 echo 'the second toolchain' >"$IDENTITY"
 changed "another toolchain"
-truncate -s 100 "$copy/target/staticlib/libfigures_c.a"
+truncate -s 100 "$copy/crates/figures_c/out/libfigures_c.a"
 changed "half an archive"
-rm "$copy/target/staticlib/libfigures_c.a"
+rm "$copy/crates/figures_c/out/libfigures_c.a"
 changed "no archive"
 rm -r "$copy/target/link"
 made 0 0 "a library that was removed"
+mkdir -p "$copy/crates/clock/out" "$copy/crates/clock/src/out"
+echo >"$copy/crates/clock/out/kept"
+made 0 0 "what rt keeps"
+echo >"$copy/crates/clock/src/out/more.rt"
+changed "a file in a module that is called out"
 
 echo '// a line that is not proved' >>"$file"
 echo 'exit 1' >"$CALLS.then"
 made 1 1 "an rt that fails"
 changed "an rt that failed"
 echo '// a line more' >>"$file"
-echo 'truncate -s 100 target/staticlib/libfigures_c.a && kill -9 0' >"$CALLS.then"
+echo 'truncate -s 100 out/libfigures_c.a && kill -9 0' >"$CALLS.then"
 made 1 137 "a run that is interrupted"
 changed "an interrupted run"
 echo '// a line at the start' >>"$file"
-echo 'echo "// a line meanwhile" >>crates/figures/src/lib.rt' >"$CALLS.then"
+echo 'echo "// a line meanwhile" >>../figures/src/lib.rt' >"$CALLS.then"
 made 1 0 "a source that changes meanwhile"
 changed "a source that changed meanwhile"
 

@@ -13,7 +13,7 @@ import time
 import unittest
 
 ROOT = pathlib.Path(__file__).resolve().parent.parent.parent
-PROGRAM = [str(ROOT / "tools" / "start"), str(ROOT / "target" / "bin" / "figures_program")]
+PROGRAM = [str(ROOT / "tools" / "start"), str(ROOT / "crates" / "figures_program" / "out" / "figures_program")]
 SECONDS = 60
 
 HEADER = b"value from to visits\n"

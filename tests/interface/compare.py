@@ -42,27 +42,28 @@ CONSTANTS = {
     "numbers of a reply": (macro("REPLY"), (RAW, r"Reply = \[u32; (\d+)\]"), python("_REPLY"), (REPLY, r"-> \[u32; (\d+)\]"))
     + tuple((file, r"reply: &mut \[u32; (\d+)\]") for file in CALLS),
     "refused": (macro("REFUSED"), rust("REFUSED", ANSWERS), python("_REFUSED"), code("figures_c", "reply", "REFUSED"))
-    + ((REPLIES, r"^refusedReply \w+ \w+ = (\d+) ∷"),),
+    + ((REPLIES, r"^refused_reply \w+ \w+ = (\d+) ∷"),),
     "an answer": (macro("ANSWER"), rust("ANSWER", ANSWERS), python("_ANSWER"), code("figures_c", "reply", "ANSWER"))
     + ((REPLIES, r"^\w+ (?:filled\.Done|\(\w+\.(?:Value|Rows) .*\)) = (\d+) ∷"),),
     "none": (macro("NONE"), python("_NONE"), code("figures_c", "reply", "NONE"))
     + ((REPLIES, r"^\w+ \(?\w+\.Nothing.* = (\d+) ∷"),),
-    "numbers of a row": (macro("ROW"), rust("ROW"), python("ROW"), code("day", "row", "ROW_WIDTH"), spec("Day", "rowWidth")),
+    "numbers of a row": (macro("ROW"), rust("ROW"), python("ROW"))
+    + (code("day", "row", "ROW_WIDTH"), spec("Day", "row_width")),
     "rows": (macro("MOST_ROWS"), rust("MOST_ROWS"), python("MOST_ROWS"))
-    + (code("day", "row", "MOST_ROWS"), spec("Day", "mostRows")),
+    + (code("day", "row", "MOST_ROWS"), spec("Day", "most_rows")),
     "stops": (macro("MOST_STOPS"), rust("MOST_STOPS"), python("MOST_STOPS"))
-    + (code("figures", "checks", "MOST_STOPS"), spec("Day", "mostStops")),
+    + (code("figures", "checks", "MOST_STOPS"), spec("Day", "most_stops")),
     "pivots": (macro("MOST_PIVOTS"), rust("MOST_PIVOTS"), python("MOST_PIVOTS"))
-    + (code("figures", "pivots", "MOST_PIVOTS"), spec("Pivots", "mostPivots")),
+    + (code("figures", "pivots", "MOST_PIVOTS"), spec("Pivots", "most_pivots")),
     "the horizon": (macro("HORIZON"), rust("HORIZON"), python("HORIZON"))
     + (code("clock", "lib", "HORIZON"), spec("Clock", "horizon")),
     "scratch": (macro("SCRATCH"), rust("SCRATCH"), python("_SCRATCH"))
-    + (code("figures", "checks", "SCRATCH"), spec("Lent", "scratchPlaces")),
+    + (code("figures", "checks", "SCRATCH"), spec("Lent", "scratch_places")),
     "unreached": (macro("UNREACHED"), rust("UNREACHED"), python("_UNREACHED"))
-    + (code("passes", "forward", "UNREACHED"), spec("Routes", "inNumbers unreached"), spec("Forward", "nowhere", "passes")),
+    + (code("passes", "forward", "UNREACHED"), spec("Routes", "in_numbers unreached"), spec("Forward", "nowhere", "passes")),
     "bytes of stack": (macro("STACK"), rust("STACK")),
-    "the last client": (code("day", "row", "LAST_CLIENT"), spec("Day", "lastClient")),
-    "the number of a row's fault": (code("day", "faults", "ROW_FAULT"), spec("Table", "rowFault")),
+    "the last client": (code("day", "row", "LAST_CLIENT"), spec("Day", "last_client")),
+    "the number of a row's fault": (code("day", "faults", "ROW_FAULT"), spec("Table", "row_fault")),
     "the greatest number": (macro("UNREACHED"), python("_MOST")),
 }
 
@@ -129,7 +130,7 @@ def refusals(texts, file):
 
 
 def sentence_findings(texts):
-    given = {int(found[1]) for found in matches(texts, TABLE, r"(?:when|atFirst|number =|^rowFault =) (\d+)")}
+    given = {int(found[1]) for found in matches(texts, TABLE, r"(?:when|check_at_first|number =|^row_fault =) (\d+)")}
     for file in SENTENCES:
         if set(refusals(texts, file)) != given:
             yield f"the numbers of {file} are {sorted(refusals(texts, file))}, those of {TABLE} {sorted(given)}"
