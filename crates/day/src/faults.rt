@@ -54,7 +54,8 @@ pub fn first_wrong(list: &[u32], n: u32) -> Verdict
                 place: i as u32,
             };
         }
-        if r.owner > LAST_CLIENT {
+        let above = r.owner > LAST_CLIENT;
+        if above {
             return Verdict::Refused {
                 number: 11,
                 place: i as u32,

@@ -22,7 +22,8 @@ pub(crate) fn list_check(list: &[u32], n: u32) -> Verdict
             place: 0,
         };
     }
-    if list.len() / ROW_WIDTH > MOST_ROWS {
+    let many = list.len() / ROW_WIDTH > MOST_ROWS;
+    if many {
         return Verdict::Refused {
             number: 2,
             place: 0,

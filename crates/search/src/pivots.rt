@@ -49,6 +49,7 @@ pub fn pivot_bounds(onward: &[u32], count: usize, n: usize, out: &mut [u32])
 }
 
 // Whether a pivot joins a source to a target, by its number for the target and the source's number for it.
+#[tactic(auto, unfolding(crate::specs::Pivots::joinsb))]
 fn joins(onward: u32, into: u32) -> bool
     ensures { result ≡ joinsb onward into }
 {

@@ -1,18 +1,13 @@
 -- The loop: the scan of the rows left, from here, finds what the scan of all finds.
-use Prim.Native.Nat.{◌-◌, ◌/◌}
+use Prim.Native.Nat.{◌/◌}
 use native.Mathlib.Omega.{arith}
-use mathlib.Core.Path.{◌≡◌, sym, ◌∙◌, ap}
+use mathlib.Core.Path.{sym, ◌∙◌, ap}
 use borrow.Author.Tests.{not-true, not-false}
 use lib.ListN.{length}
 use Rattle.day.specs.Rows.{row_of}
 use Rattle.day.specs.Verdicts.{fault_says, verdict_of}
 use Rattle.day.proofs.Saying.{said_next, said_found, said_end}
 use Rattle.day.proofs.faults.first_fault.Goals as goal
-
-pub loop-i-init : goal.loop-i-init
-loop-i-init c =
-    let args = c.args in
-    (omega arith, let e : length args.rows.now / 5 - 0 ≡ length args.rows.now / 5 = omega arith in rw e)
 
 pub returns-then-not-is_right : goal.returns-then-not-is_right
 returns-then-not-is_right c =

@@ -1,7 +1,7 @@
 -- The loop: the scan of the rows left, from here, finds what the scan of all finds.
-use Prim.Native.Nat.{◌-◌, ◌/◌}
+use Prim.Native.Nat.{◌/◌}
 use native.Mathlib.Omega.{arith}
-use mathlib.Core.Path.{◌≡◌, sym, ◌∙◌, ap}
+use mathlib.Core.Path.{sym, ◌∙◌, ap}
 use borrow.Author.Tests.{not-true, not-false, lt-ltb, le-ltb}
 use lib.ListN.{length}
 use Rattle.day.specs.Rows.{row_of}
@@ -9,28 +9,23 @@ use Rattle.day.specs.Verdicts.{office_says, verdict_of}
 use Rattle.day.proofs.Saying.{said_next, said_found, said_end}
 use Rattle.day.proofs.faults.first_wrong.Goals as goal
 
-pub loop-i-init : goal.loop-i-init
-loop-i-init c =
-    let args = c.args in
-    (omega arith, let e : length args.list.now / 5 - 0 ≡ length args.list.now / 5 = omega arith in rw e)
-
 pub returns-then-not-is_right : goal.returns-then-not-is_right
 returns-then-not-is_right c =
     let args = c.args in
     let loop = c.loop-i in
     let e = sym c.is_right.ensures ∙ not-true _ c.if-not-is_right.true-raw in ap verdict_of (sym (said_found (office_says args.n) args.list.now (length args.list.now / 5) loop.i loop.last.0 (row_of c.row_at-r.result) 6 c.loop-i-test.true c.row_at-r.ensures (rw e)) ∙ loop.invariant.1)
 
-pub returns-then-r-gt-LAST_CLIENT : goal.returns-then-r-gt-LAST_CLIENT
-returns-then-r-gt-LAST_CLIENT c =
+pub returns-then-above : goal.returns-then-above
+returns-then-above c =
     let args = c.args in
     let loop = c.loop-i in
-    let e = sym c.is_right.ensures ∙ not-false _ c.if-not-is_right.false-raw in ap verdict_of (sym (said_found (office_says args.n) args.list.now (length args.list.now / 5) loop.i loop.last.0 (row_of c.row_at-r.result) 11 c.loop-i-test.true c.row_at-r.ensures (rw (e, lt-ltb _ _ c.if-r-gt-LAST_CLIENT.true))) ∙ loop.invariant.1)
+    let e = sym c.is_right.ensures ∙ not-false _ c.if-not-is_right.false-raw in ap verdict_of (sym (said_found (office_says args.n) args.list.now (length args.list.now / 5) loop.i loop.last.0 (row_of c.row_at-r.result) 11 c.loop-i-test.true c.row_at-r.ensures (rw (e, lt-ltb 255 c.row_at-r.result.owner (omega arith)))) ∙ loop.invariant.1)
 
 pub loop-i-preserved : goal.loop-i-preserved
 loop-i-preserved c =
     let args = c.args in
     let loop = c.loop-i in
-    let e = sym c.is_right.ensures ∙ not-false _ c.if-not-is_right.false-raw in (omega arith, sym (said_next (office_says args.n) args.list.now (length args.list.now / 5) loop.i loop.last.0 (row_of c.row_at-r.result) c.loop-i-test.true c.row_at-r.ensures (rw (e, le-ltb _ _ c.if-r-gt-LAST_CLIENT.false))) ∙ loop.invariant.1)
+    let e = sym c.is_right.ensures ∙ not-false _ c.if-not-is_right.false-raw in (omega arith, sym (said_next (office_says args.n) args.list.now (length args.list.now / 5) loop.i loop.last.0 (row_of c.row_at-r.result) c.loop-i-test.true c.row_at-r.ensures (rw (e, le-ltb 255 c.row_at-r.result.owner (omega arith)))) ∙ loop.invariant.1)
 
 pub returns : goal.returns
 returns c =

@@ -1,18 +1,13 @@
 -- The loop: what is copied and what is left make up the whole.
-use Prim.Native.Nat.{◌-◌, ◌/◌}
+use Prim.Native.Nat.{◌/◌}
 use native.Mathlib.Omega.{arith}
-use mathlib.Core.Path.{◌≡◌, refl, subst}
+use mathlib.Core.Path.{refl, subst}
 use lib.ListN.{length}
 use Rattle.rules.specs.Day.{Row, row_width, row_at, sees, own}
 use Rattle.rules.specs.Struck.{numbers}
 use Rattle.rules.specs.Lent.{Kept}
-use Rattle.rules.proofs.Laws.Written.{things_more, things_end, copy_none, copy_step, copy_end, kept_most}
+use Rattle.rules.proofs.Laws.Written.{things_more, things_end, copy_step, copy_end, kept_most}
 use Rattle.day.proofs.own.own_rows.Goals as goal
-
-pub loop-i-init : goal.loop-i-init
-loop-i-init c =
-    let args = c.args in
-    (omega arith, (omega arith, let e : length args.list.now / 5 - 0 ≡ length args.list.now / 5 = omega arith in rw e (copy_none row_width numbers (λ r. refl) _ _)))
 
 pub loop-i-preserved : goal.loop-i-preserved
 unfolding own
@@ -23,9 +18,6 @@ loop-i-preserved c =
     let kept = c.keep-k in
     let k = subst (λ (r : Row). Kept row_width numbers (sees args.asker r) r loop.k loop.rows kept.result kept.new.rows) c.row_at-r.ensures kept.ensures in
     (omega arith, (omega (arith, kept_most k), copy_step row_width numbers (λ r. refl) (sees args.asker (row_at args.list.now loop.i)) _ _ _ _ _ _ _ _ (omega arith) h k))
-
-pub shape_of-rows : goal.shape_of-rows
-shape_of-rows c = c.loop-i.invariant.1.1.long
 
 pub returns : goal.returns
 unfolding own

@@ -1,7 +1,7 @@
 -- The verdict on the plain numbers, then the one on the asker's rows, make the one on both.
 use Prim.Native.Nat.{◌*◌, ◌-◌}
 use mathlib.Core.Path.{◌≡◌, refl, sym, ◌∙◌, ap, subst}
-use mathlib.Core.Logic.{inl, inr}
+use mathlib.Core.Logic.{inr}
 use mathlib.Core.List.{List}
 use native.Mathlib.Omega.{arith}
 use lib.ListN.{length-take}
@@ -17,11 +17,6 @@ use Rattle.figures.specs.Promises.{ask}
 use Rattle.figures.proofs.Judging.{told_fine, told_refused}
 use Rattle.figures.proofs.Preparing.{list_fits, own_few}
 use Rattle.figures.proofs.ask.prepare.Goals as goal
-
-pub returns-in-Refused : goal.returns-in-Refused
-returns-in-Refused c =
-    let args = c.args in
-    inl (told_refused (plain_checks (ask args.list.now args.n args.asker args.a args.w)) _ c.in-Refused.number c.in-Refused.place c.plain_check-v.ensures c.in-Refused.is, refl)
 
 pub own_rows-k-requires : goal.own_rows-k-requires
 own_rows-k-requires c =

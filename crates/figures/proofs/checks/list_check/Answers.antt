@@ -6,11 +6,8 @@ use Rattle.rules.proofs.Laws.Rows.{length_rows}
 use Rattle.figures.proofs.Judging.{passes}
 use Rattle.figures.proofs.checks.list_check.Goals as goal
 
-pub returns-then-list-ne0 : goal.returns-then-list-ne0
-returns-then-list-ne0 c = inl (refl, (refl, c.if-list-ne0.true))
-
-pub returns-then-list-gt-MOST_ROWS : goal.returns-then-list-gt-MOST_ROWS
-returns-then-list-gt-MOST_ROWS c = inr (passes (λ h. h c.if-list-ne0.false), inl (refl, (refl, omega (arith, length_rows c.args.list.now))))
+pub returns-then-many : goal.returns-then-many
+returns-then-many c = inr (passes (λ h. h c.if-list-ne0.false), inl (refl, (refl, omega (arith, length_rows c.args.list.now))))
 
 pub returns-then-n-eq0 : goal.returns-then-n-eq0
 returns-then-n-eq0 c = inr (passes (λ h. h c.if-list-ne0.false), inr (passes (λ h. omega (arith, length_rows c.args.list.now)), inl (refl, (refl, inl c.if-n-eq0.true))))

@@ -5,7 +5,7 @@ use mathlib.Core.Path.{◌≡◌, refl, ap, ◌∙◌}
 use lib.ListN.{length}
 use Rattle.rules.specs.Clock.{horizon}
 use Rattle.figures.proofs.Pivoting.{pivot_at, length_pivots}
-use Rattle.figures.proofs.Placing.{place_more, place_end, apart_more, apart_none, pivot_sits}
+use Rattle.figures.proofs.Placing.{place_more, place_end, apart_more, pivot_sits}
 use Rattle.passes.specs.Forward.{init, passed}
 use Rattle.passes.proofs.Laws.Passed.{passed_length, init_long}
 use Rattle.passes.proofs.Laws.Reach.{reached_back_length, reach_init_long}
@@ -16,9 +16,6 @@ use Rattle.rules.specs.Pivots.{pivots_of}
 use Rattle.figures.specs.Pivots.{put_at}
 use Rattle.search.specs.Pivots.{pivot_places}
 use Rattle.figures.proofs.lay.lay_pivots.Goals as goal
-
-pub loop-i-init : goal.loop-i-init
-loop-i-init c = (omega arith, (apart_none _ _, (apart_none _ _, (λ j l. absurd (omega arith), λ j l. absurd (omega arith)))))
 
 pub since-reading-requires : goal.since-reading-requires
 since-reading-requires c =
@@ -51,12 +48,6 @@ loop-i-preserved c =
     let put = c.lay_pivot.ensures.onward_after ∙ ap (λ (x : ℕ). put_at at args.n (passed ls (init x p.stop args.n)) loop.onward) c.since-reading.ensures in
     let put2 = c.lay_pivot.ensures.into_after ∙ ap (λ (x : ℕ). put_at at args.n (reached_back ls (reach_init x p.stop args.n)) loop.into) c.since-reading.ensures in
     (omega arith, (apart_more args.n loop.i (onward p) _ loop.onward _ room long put inv.1.0, (apart_more args.n loop.i (into p) _ loop.into _ room2 long2 put2 inv.1.1.0, (place_more args.n args.pivots.now onward loop.i (onward p) loop.onward _ c.requires.n_le_most_stops.0 room long refl put inv.1.1.1.0, place_more args.n args.pivots.now into loop.i (into p) loop.into _ c.requires.n_le_most_stops.0 room2 long2 refl put2 inv.1.1.1.1))))
-
-pub shape_of-onward : goal.shape_of-onward
-shape_of-onward c = c.loop-i.invariant.1.0.same_length
-
-pub shape_of-into : goal.shape_of-into
-shape_of-into c = c.loop-i.invariant.1.1.0.same_length
 
 pub returns : goal.returns
 returns c =

@@ -5,9 +5,6 @@ use mathlib.Core.Path.{refl, sym, ◌∙◌}
 use Rattle.figures.proofs.Pivoting.{is_astray, one_more_sits, all_sit}
 use Rattle.figures.proofs.pivots.first_astray.Goals as goal
 
-pub loop-i-init : goal.loop-i-init
-loop-i-init c = (omega arith, λ j l a. omega arith)
-
 pub returns-then-is_astray : goal.returns-then-is_astray
 returns-then-is_astray c =
     let loop = c.loop-i in

@@ -9,9 +9,6 @@ use Rattle.figures.proofs.Judging.{passes}
 use Rattle.figures.proofs.Pivoting.{length_pivots, judges_next}
 use Rattle.figures.proofs.pivots.pivots_check.Goals as goal
 
-pub returns-then-pivots-ne0 : goal.returns-then-pivots-ne0
-returns-then-pivots-ne0 c = inl (refl, (refl, inl c.if-pivots-ne0.true))
-
 pub returns-then-pivots-gt-MOST_PIVOTS : goal.returns-then-pivots-gt-MOST_PIVOTS
 returns-then-pivots-gt-MOST_PIVOTS c = inl (refl, (refl, inr (omega (arith, length_pivots c.args.pivots.now))))
 

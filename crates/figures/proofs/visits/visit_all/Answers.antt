@@ -1,14 +1,7 @@
 -- The loop: the search with the turns left, from here, ends as the search from the start.
 use mathlib.Core.Path.{sym, ◌∙◌}
-use Rattle.passes.specs.Legs.{legs_in}
-use Rattle.search.proofs.Laws.Searched.{going_begun, going_visit, turns_over, targets_over, stops_there}
-use Rattle.figures.specs.Answered.{far_in}
+use Rattle.search.proofs.Laws.Searched.{going_visit, turns_over, targets_over, stops_there}
 use Rattle.figures.proofs.visits.visit_all.Goals as goal
-
-pub loop-k-init : goal.loop-k-init
-loop-k-init c =
-    let args = c.args in
-    rw (c.begun-st.ensures, c.before_all-last.ensures) (going_begun (far_in (legs_in args.legs.now) args.n) args.bounds.now args.n)
 
 pub returns-in_default : goal.returns-in_default
 returns-in_default c =

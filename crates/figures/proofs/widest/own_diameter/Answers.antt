@@ -34,4 +34,4 @@ visit_all-st-requires c =
 pub returns : goal.returns
 returns c =
     let args = c.args in
-    let st = rw (sym c.visit_all-st.ensures) at (search_right args.n args.a args.w args.rows.now c.requires _ _ c.lay_legs-end.ensures.count c.lay_legs-end.ensures.copied (c.lay_legs-end.result - 0) (omega (arith, c.lay_legs-end.ensures.ends)) _ c.bounds.new.out c.bounds.ensures) in rw c.answer_of.ensures (search_fulfils (last_checks (rows_of args.rows.now) args.n args.a args.w (takes [] [] (room args.scratch.now scratch_places ∷ []))) _ _ _ _ c.visit_all-st.result (last_clear (rows_of args.rows.now) args.n args.a args.w [] (room args.scratch.now scratch_places ∷ []) none_of_none (none_of_one (λ l. omega (arith, c.if-scratch-lt-SCRATCH.false)))) st (scratch_wiped args.scratch.now _ c.if-scratch-lt-SCRATCH.false c.fill.ensures))
+    let st = rw (sym c.visit_all-st.ensures) at (search_right args.n args.a args.w args.rows.now c.requires _ _ c.lay_legs-end.ensures.count c.lay_legs-end.ensures.copied (c.lay_legs-end.result - 0) (omega (arith, c.lay_legs-end.ensures.ends)) _ c.bounds.new.out c.bounds.ensures) in rw c.answer_of.ensures (search_fulfils (last_checks (rows_of args.rows.now) args.n args.a args.w (takes [] [] (room args.scratch.now scratch_places ∷ []))) _ _ _ _ c.visit_all-st.result (last_clear (rows_of args.rows.now) args.n args.a args.w [] (room args.scratch.now scratch_places ∷ []) none_of_none (none_of_one (λ l. omega arith))) st (scratch_wiped args.scratch.now _ (omega arith) c.fill.ensures))

@@ -2,24 +2,12 @@
 use native.Mathlib.Omega.{arith}
 use lib.ListN.{get_or}
 use borrow.Author.Count.{below_more}
-use Rattle.frames.proofs.Laws.Deciding.{so, not_so}
+use Rattle.frames.proofs.Laws.Deciding.{so}
 use Rattle.frames.specs.Parts.{IsDigit}
 use Rattle.frames.proofs.digits.all_digits.Goals as goal
-
-pub loop-i-init : goal.loop-i-init
-loop-i-init c = (omega arith, λ j h. absurd (omega arith))
-
-pub returns-then-not-is_digit : goal.returns-then-not-is_digit
-returns-then-not-is_digit c = let loop = c.loop-i in
-    let byte = get_or c.args.line.now loop.i 0 in
-    let test = c.is_digit in
-    λ h. not_so (IsDigit byte) test.result c.is_digit.ensures c.if-not-is_digit.true-raw (h loop.i c.loop-i-test.true)
 
 pub loop-i-preserved : goal.loop-i-preserved
 loop-i-preserved c = let loop = c.loop-i in
     let byte = get_or c.args.line.now loop.i 0 in
     let test = c.is_digit in
     (omega arith, below_more _ _ loop.invariant.1 (so (IsDigit byte) test.result c.is_digit.ensures c.if-not-is_digit.false-raw))
-
-pub returns : goal.returns
-returns c = λ i h. c.loop-i.invariant.1 i (omega arith)

@@ -1,25 +1,13 @@
 -- Each test tells one end of a range.
 use native.Mathlib.Omega.{arith}
-use Rattle.frames.proofs.Laws.Bytes.{figure, capital, letter, ranges}
+use Rattle.frames.proofs.Laws.Bytes.{figure, capital, letter}
 use Rattle.frames.proofs.digits.is_digit.Goals as goal
-
-pub returns-then-b-lt48 : goal.returns-then-b-lt48
-returns-then-b-lt48 c = λ h. omega (arith, (ranges _ h).first)
 
 pub returns-then-b-le57 : goal.returns-then-b-le57
 returns-then-b-le57 c = (_, figure _ (omega arith) (omega arith))
 
-pub returns-then-b-lt65 : goal.returns-then-b-lt65
-returns-then-b-lt65 c = λ h. omega (arith, (ranges _ h).second (omega arith))
-
 pub returns-then-b-le70 : goal.returns-then-b-le70
 returns-then-b-le70 c = (_, capital _ (omega arith) (omega arith))
 
-pub returns-then-b-lt97 : goal.returns-then-b-lt97
-returns-then-b-lt97 c = λ h. omega (arith, (ranges _ h).third (omega arith))
-
 pub returns-then-b-le102 : goal.returns-then-b-le102
 returns-then-b-le102 c = (_, letter _ (omega arith) (omega arith))
-
-pub returns-else-b-le102 : goal.returns-else-b-le102
-returns-else-b-le102 c = λ h. omega (arith, (ranges _ h).last)

@@ -1,9 +1,6 @@
 -- Invariant: x is the number of the first i digits.
-use Prim.Native.Nat.{ℕ}
 use native.Mathlib.Omega.{arith}
-use mathlib.Core.Path.{◌≡◌, subst}
 use Rattle.frames.proofs.Laws.Places.{number_none, number_more, number_below}
-use Rattle.frames.specs.Parts.{NumberAt}
 use Rattle.frames.proofs.digits.number_at.Goals as goal
 
 pub loop-i-init : goal.loop-i-init
@@ -21,9 +18,3 @@ overflow_add-x c = let args = c.args in
 
 pub loop-i-preserved : goal.loop-i-preserved
 loop-i-preserved c = (omega arith, number_more _ _ _ _ _ (omega arith) c.loop-i.invariant.1 c.digit.ensures)
-
-pub returns : goal.returns
-returns c = let args = c.args in
-    let loop = c.loop-i in
-    let e : loop.i ≡ args.k = omega arith in
-    subst (λ (i : ℕ). NumberAt args.line.now args.at i loop.x) e loop.invariant.1

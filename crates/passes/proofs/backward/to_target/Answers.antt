@@ -1,7 +1,7 @@
 -- The loop: u places are filled.
 use Prim.Native.Nat.{◌<◌}
 use native.Mathlib.Omega.{arith}
-use mathlib.Core.Path.{◌≡◌, refl, sym, ◌∙◌}
+use mathlib.Core.Path.{◌≡◌, sym, ◌∙◌}
 use lib.ListN.{get_or, length-set}
 use Rattle.passes.specs.Legs.{legs_in}
 use Rattle.passes.specs.Links.{link_places}
@@ -11,9 +11,6 @@ use Rattle.passes.proofs.Laws.Backward.{distances_at, length_distances}
 use Rattle.passes.proofs.Laws.Swept.{swept_head}
 use Rattle.passes.proofs.Filling.{fill_one, fill_end}
 use Rattle.passes.proofs.backward.to_target.Goals as goal
-
-pub loop-u-init : goal.loop-u-init
-loop-u-init c = (omega arith, (refl, refl))
 
 pub bounds-best-head : goal.bounds-best-head
 bounds-best-head c = omega (arith, (let known : get_or c.args.head.now c.loop-u.u 0 < link_places = let args = c.args in omega (arith, c.requires.orderly.few, head_within args.legs.now args.head.now args.next.now args.follow.now 0 c.loop-u.u c.requires.linked (omega arith)) in known))
@@ -27,9 +24,6 @@ loop-u-preserved c =
     let ls = legs_in args.legs.now in
     let reached = swept_head args.legs.now c.requires.orderly args.target c.sweep.new.best args.head.now args.next.now args.follow.now loop.u c.requires.linked c.sweep.ensures.swept (omega arith) in
     (omega arith, (length-set loop.out loop.u _ ∙ loop.invariant.1.0, fill_one (distances_to args.target ls args.n 0) args.out.now loop.u _ loop.out (omega (arith, length_distances args.target ls args.n 0)) (omega arith) loop.invariant.1.1 (c.distance_to.ensures ∙ (rw reached (sym (distances_at args.target ls args.n loop.u on))))))
-
-pub shape_of-out : goal.shape_of-out
-shape_of-out c = c.loop-u.invariant.1.0
 
 pub returns : goal.returns
 returns c =

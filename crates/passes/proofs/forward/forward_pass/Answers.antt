@@ -1,7 +1,7 @@
 -- The loop: the pass over the legs left, from here, ends as the pass over all.
-use Prim.Native.Nat.{◌-◌, ◌/◌}
+use Prim.Native.Nat.{◌/◌}
 use native.Mathlib.Omega.{arith}
-use mathlib.Core.Path.{◌≡◌, refl, sym, ◌∙◌, ap}
+use mathlib.Core.Path.{sym, ◌∙◌, ap}
 use lib.ListN.{length}
 use Rattle.rules.proofs.Laws.Written.{things_end}
 use Rattle.passes.specs.Legs.{leg_at, legs_in}
@@ -10,19 +10,11 @@ use Rattle.passes.proofs.Laws.Passed.{passed_append, init_long}
 use Rattle.passes.proofs.Passing.{passed_next, laid_inside}
 use Rattle.passes.proofs.forward.forward_pass.Goals as goal
 
-pub loop-j-init : goal.loop-j-init
-loop-j-init c =
-    let args = c.args in
-    (omega arith, (refl, let e : (length args.legs.now / 4) - 0 ≡ (length args.legs.now / 4) = omega arith in rw e))
-
 pub loop-j-preserved : goal.loop-j-preserved
 loop-j-preserved c =
     let args = c.args in
     let loop = c.loop-j in
     (omega arith, (c.relax.auto.out ∙ loop.invariant.1.0, ap (passed _) c.relax.ensures ∙ (sym (passed_next args.legs.now (length args.legs.now / 4) loop.j c.leg_at-l.result loop.out c.loop-j-test.true c.leg_at-l.ensures (c.requires.1.1.rises loop.j c.loop-j-test.true)) ∙ loop.invariant.1.1)))
-
-pub shape_of-out : goal.shape_of-out
-shape_of-out c = c.loop-j.invariant.1.0 ∙ c.begin.auto.out
 
 pub returns : goal.returns
 unfolding passed

@@ -2,7 +2,7 @@
 use Prim.Native.Nat.{ℕ, ◌-◌, ◌%◌, ◌≤◌, ◌<◌}
 use native.Mathlib.Omega.{arith}
 use native.Mathlib.Decide.{dec_le}
-use mathlib.Core.Path.{◌≡◌, refl, sym, ◌∙◌}
+use mathlib.Core.Path.{sym, ◌∙◌}
 use mathlib.Core.List.{List}
 use Rattle.rules.specs.Day.{most_rows}
 use Rattle.passes.specs.Links.{link_places, leg_count, Jump, Chained}
@@ -16,9 +16,6 @@ jump-falls list k q one few most jump = go (dec_le 1 q)
     go : Dec (1 ≤ q) → (link_places - q) % link_places < (link_places - k) % link_places
     go (yes d) = omega (arith, jump.later d, jump.most)
     go (no d) = omega arith
-
-pub loop-j-init : goal.loop-j-init
-loop-j-init c = (c.requires.k_bound, (λ one. (one, omega arith), refl))
 
 pub returns-then-t-start : goal.returns-then-t-start
 returns-then-t-start c =
@@ -52,9 +49,3 @@ loop-j-preserved c =
     let f = c.farther-j.ensures in
     let j = farther_jump args.legs.now fit loop.j args.t _ _ on within next jump f in
     (j.most, (λ one. (past.0, omega (arith, j.later one, past.1)), farther_onward args.legs.now fit loop.j args.t _ _ on within next jump (omega (arith, c.leg_at-leg.ensures.start)) f ∙ loop.invariant.1.1))
-
-pub returns : goal.returns
-returns c =
-    let loop = c.loop-j in
-    let z : loop.j ≡ 0 = omega arith in
-    rw z at loop.invariant.1.1

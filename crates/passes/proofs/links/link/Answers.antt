@@ -1,7 +1,6 @@
 -- The loop: the legs past number k are linked.
 use Prim.Native.Nat.{◌-◌, ◌<◌}
 use native.Mathlib.Omega.{arith}
-use mathlib.Core.Path.{◌≡◌}
 use lib.ListN.{get_or}
 use Rattle.rules.specs.Day.{most_stops}
 use Rattle.passes.specs.Links.{link_places}
@@ -47,9 +46,3 @@ loop-k-preserved c =
     let loop = c.loop-k in
     let leg = c.leg_at-leg in
     (omega arith, link_one args.legs.now c.requires.orderly loop.k c.loop-k-test.true loop.invariant.0 loop.head loop.next loop.follow loop.jump loop.depth loop.invariant.1 leg.result.from leg.result.to leg.result.arrive.0 _ _ c.leg_at-leg.ensures.from c.leg_at-leg.ensures.to c.leg_at-leg.ensures.arrive c.first_from.ensures c.jump_of.ensures, beside_one _ loop.k _ _ _ c.loop-k-test.true loop.invariant.0 loop.invariant.2, beside_one _ loop.k _ _ _ c.loop-k-test.true loop.invariant.0 loop.invariant.3)
-
-pub returns : goal.returns
-returns c =
-    let loop = c.loop-k in
-    let z : loop.k ≡ 0 = omega arith in
-    record { linked = rw z at loop.invariant.1.linked; head_length = loop.invariant.1.head_long; next_kept = rw z at loop.invariant.2; follow_kept = rw z at loop.invariant.3 }

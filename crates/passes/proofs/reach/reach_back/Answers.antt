@@ -18,8 +18,5 @@ loop-k-init c = let args = c.args in let z : length args.legs.now / 4 - length a
 pub loop-k-preserved : goal.loop-k-preserved
 loop-k-preserved c = let args = c.args in let loop = c.loop-k in let inside : loop.k - 1 < length args.legs.now / 4 = omega arith in (omega arith, (c.take_back.auto.out ∙ loop.invariant.1.0, c.take_back.ensures ∙ reached_next args.legs.now (length args.legs.now / 4) loop.k c.leg_at-l.result _ loop.out c.loop-k-test.true loop.invariant.0 c.leg_at-l.ensures (c.requires.1.1.1.rises (loop.k - 1) inside) loop.invariant.1.1))
 
-pub shape_of-out : goal.shape_of-out
-shape_of-out c = c.loop-k.invariant.1.0 ∙ c.begin_back.auto.out
-
 pub returns : goal.returns
 returns c = let args = c.args in let loop = c.loop-k in let z : loop.k ≡ 0 = omega arith in let all : length args.legs.now / 4 - 0 ≡ length args.legs.now / 4 = omega arith in (rw (z, all) at loop.invariant.1.1) ∙ (ap (reached_back (legs_in args.legs.now)) c.begin_back.ensures ∙ reached_back_append args.n (legs_in args.legs.now) (reach_init args.by args.stop args.n) _ (laid_inside args.n args.legs.now c.requires.1.1.1) (reach_init_long _ _ _))

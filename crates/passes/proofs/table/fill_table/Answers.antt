@@ -1,7 +1,7 @@
 -- The loop: the stretches so far stand at the front, and the rest is kept.
 use Prim.Native.Nat.{◌+◌}
 use native.Mathlib.Omega.{arith}
-use mathlib.Core.Path.{◌≡◌, refl, ◌∙◌}
+use mathlib.Core.Path.{refl, ◌∙◌}
 use lib.ListN.{length}
 use Rattle.passes.specs.Legs.{legs_in}
 use Rattle.passes.specs.Forward.{stretch_of, init}
@@ -19,12 +19,3 @@ loop-u-preserved c =
     let args = c.args in
     let loop = c.loop-u in
     let q = square loop.u args.n c.loop-u-test.true in let e = table_more args.n (stretch_of args.n (legs_in args.legs.now)) (λ u. passed_length (legs_in args.legs.now) (init 0 u args.n) ∙ init_long 0 u args.n) args.out.now loop.u (length loop.out) loop.out c.forward_pass.new.out (omega (arith, c.requires)) loop.invariant.1.0 loop.invariant.1.1 c.forward_pass.ensures in (omega arith, (table_length args.n (stretch_of args.n (legs_in args.legs.now)) (λ u. passed_length (legs_in args.legs.now) (init 0 u args.n) ∙ init_long 0 u args.n) args.out.now (loop.u + 1) _ (omega (arith, next_times loop.u args.n, c.requires)) e, e))
-
-pub shape_of-out : goal.shape_of-out
-shape_of-out c = c.loop-u.invariant.1.0
-
-pub returns : goal.returns
-returns c =
-    let args = c.args in
-    let loop = c.loop-u in
-    let e : loop.u ≡ args.n = omega arith in rw e at loop.invariant.1.1

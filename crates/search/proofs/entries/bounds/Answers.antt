@@ -1,17 +1,11 @@
 -- The loop: the legs left, entered from here, give the bounds of all.
-use Prim.Native.Nat.{◌/◌}
 use native.Mathlib.Omega.{arith}
 use mathlib.Core.Path.{ap, ◌∙◌}
-use lib.ListN.{length, drop}
+use lib.ListN.{drop}
 use Rattle.passes.specs.Legs.{legs_in}
 use Rattle.search.specs.Bounds.{entered_by}
-use Rattle.search.proofs.Entering.{enter_none, next_leg_sound, enter_more, enter_end, bounds_append}
+use Rattle.search.proofs.Entering.{next_leg_sound, enter_more, enter_end, bounds_append}
 use Rattle.search.proofs.entries.bounds.Goals as goal
-
-pub loop-j-init : goal.loop-j-init
-loop-j-init c =
-    let args = c.args in
-    enter_none args.n args.legs.now _ (length args.legs.now / 4) c.requires.1
 
 pub enter-requires : goal.enter-requires
 enter-requires c =
@@ -22,9 +16,6 @@ pub loop-j-preserved : goal.loop-j-preserved
 loop-j-preserved c =
     let loop = c.loop-j in
     enter_more loop.invariant c.loop-j-test.true c.enter.ensures
-
-pub shape_of-out : goal.shape_of-out
-shape_of-out c = c.loop-j.invariant.long ∙ c.fill.auto.out
 
 pub returns : goal.returns
 returns c =

@@ -1,10 +1,7 @@
 -- The loop: the scan of the places left, from here, finds what the scan of all finds.
 use Rattle.search.specs.Farthest.{farthest_in}
-use Rattle.search.proofs.Laws.Scan.{scan_none, scan_more, scan_end}
+use Rattle.search.proofs.Laws.Scan.{scan_more, scan_end}
 use Rattle.search.proofs.far.farthest.Goals as goal
-
-pub loop-u-init : goal.loop-u-init
-loop-u-init c = scan_none _ _ _
 
 pub loop-u-preserved : goal.loop-u-preserved
 loop-u-preserved c = scan_more c.loop-u.invariant c.loop-u-test.true c.with-far.ensures

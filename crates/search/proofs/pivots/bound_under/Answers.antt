@@ -1,10 +1,7 @@
 -- The loop: the scan of the pivots left, from here, finds what the scan of all finds.
-use Rattle.search.proofs.Laws.Scan.{scan_none, scan_more, scan_end}
+use Rattle.search.proofs.Laws.Scan.{scan_more, scan_end}
 use Rattle.search.specs.Pivots.{bound_under}
 use Rattle.search.proofs.pivots.bound_under.Goals as goal
-
-pub loop-i-init : goal.loop-i-init
-loop-i-init c = scan_none _ _ _
 
 pub loop-i-preserved : goal.loop-i-preserved
 loop-i-preserved c = scan_more c.loop-i.invariant c.loop-i-test.true c.with_pivot-bound.ensures

@@ -1,11 +1,8 @@
 -- The loop: the pivots passed join nothing, and those left answer for all.
 use mathlib.Core.Path.{sym, ◌∙◌}
-use Rattle.search.proofs.Laws.Some.{seek_none, seek_found, seek_more, seek_end}
+use Rattle.search.proofs.Laws.Some.{seek_found, seek_more, seek_end}
 use Rattle.search.specs.Pivots.{joinedb}
 use Rattle.search.proofs.pivots.is_joined.Goals as goal
-
-pub loop-i-init : goal.loop-i-init
-loop-i-init c = seek_none _ _
 
 pub returns-then-joins : goal.returns-then-joins
 unfolding joinedb

@@ -13,7 +13,7 @@ returns-then-b-eq10 c =
 pub returns-then-len-ge-LONGEST : goal.returns-then-len-ge-LONGEST
 returns-then-len-ge-LONGEST c =
     let args = c.args in record {
-      piece_taken = byte_too_many args.b args.day args.line.now args.list.now args.pivots.now args.out.now _ _ c.requires.spare (ne_eqb args.b newline c.if-b-eq10.false) c.if-len-ge-LONGEST.true
+      piece_taken = byte_too_many args.b args.day args.line.now args.list.now args.pivots.now args.out.now _ _ c.requires.spare (ne_eqb args.b newline (λ e. omega (arith, e))) c.if-len-ge-LONGEST.true
           (omega (arith, c.requires.in_room.short, c.requires.line_len)) c.frame_line.ensures;
       zeros_2 = c.requires.zeros;
     }
@@ -23,7 +23,7 @@ returns c =
     let args = c.args in
     let room = c.requires.in_room in record {
       piece_taken = rw c.with_len.ensures.value
-          (byte_more args.b args.day args.line.now args.list.now args.pivots.now args.out.now (ne_eqb args.b newline c.if-b-eq10.false) room c.if-len-ge-LONGEST.false c.requires.line_len
+          (byte_more args.b args.day args.line.now args.list.now args.pivots.now args.out.now (ne_eqb args.b newline (λ e. omega (arith, e))) room c.if-len-ge-LONGEST.false c.requires.line_len
           (record { few_rows = room.few_rows; few_pivots = room.few_pivots; short = omega (arith, c.if-len-ge-LONGEST.false) }));
       zeros_2 = c.requires.zeros;
     }

@@ -1,8 +1,7 @@
 -- Invariant: the bytes before i are taken, and what they print stands at the front.
 use mathlib.Core.Path.{refl}
 use native.Mathlib.Omega.{arith}
-use lib.Seq.{take_all}
-use Rattle.taking.specs.Laws.Bytes.{bytes_none, bytes_more, bytes_stop, anew_went, anew_halts}
+use Rattle.taking.specs.Laws.Bytes.{bytes_none, bytes_more, bytes_stop, anew_halts}
 use Rattle.taking.proofs.lines.take_bytes.Goals as goal
 
 pub loop-i-init : goal.loop-i-init
@@ -28,10 +27,3 @@ loop-i-preserved c =
     let byte = c.take_byte in
     let inside = c.loop-i-test.true in
     (omega (arith, inside), (bytes_more args.bytes.now loop.i inside 0 _ args.line.now args.list.now args.pivots.now args.out.now loop.now loop.line loop.list loop.pivots loop.out byte.result _ c.take_byte.new.line c.take_byte.new.list c.take_byte.new.pivots c.take_byte.new.out loop.invariant.1.0 c.take_byte.ensures.piece_taken c.in-Go.is, c.take_byte.ensures.zeros_2))
-
-pub returns : goal.returns
-returns c =
-    let args = c.args in
-    let loop = c.loop-i in
-    let whole = take_all loop.i args.bytes.now (omega (arith, c.loop-i-test.false)) in
-    record { piece_taken = anew_went args.bytes.now 0 0 args.day _ c.with_made-now.ensures.value args.line.now args.list.now args.pivots.now args.out.now _ _ _ _ _ (rw whole at loop.invariant.1.0); zeros_2 = loop.invariant.1.1 }

@@ -13,7 +13,7 @@ pub returns-in-Go : goal.returns-in-Go
 returns-in-Go c =
     let args = c.args in record {
       end_taken = end_line args.day _ args.line.now args.list.now args.pivots.now args.out.now _ (step.Go c.in-Go.last) _ _ _ c.with_made.ensures.value
-          (omega (arith, c.if-day-eq0.false)) (omega (arith, c.requires.in_room.short, c.requires.line_len)) c.take_line.ensures.line_taken c.in-Go.is;
+          (omega arith) (omega (arith, c.requires.in_room.short, c.requires.line_len)) c.take_line.ensures.line_taken c.in-Go.is;
       zeros_2 = c.take_line.ensures.zeros_2;
     }
 
@@ -21,6 +21,6 @@ pub returns-in-Stop : goal.returns-in-Stop
 returns-in-Stop c =
     let args = c.args in record {
       end_taken = end_line args.day _ args.line.now args.list.now args.pivots.now args.out.now _ (step.Stop c.in-Stop.made) _ _ _ c.with_made.ensures.value
-          (omega (arith, c.if-day-eq0.false)) (omega (arith, c.requires.in_room.short, c.requires.line_len)) c.take_line.ensures.line_taken c.in-Stop.is;
+          (omega arith) (omega (arith, c.requires.in_room.short, c.requires.line_len)) c.take_line.ensures.line_taken c.in-Stop.is;
       zeros_2 = c.take_line.ensures.zeros_2;
     }

@@ -1,6 +1,5 @@
 -- By the frame's kind.
-use Rattle.taking.specs.Laws.Steps.{row_taken, pivot_taken, ask_taken, other_taken}
-use Rattle.taking.proofs.Taking.{no_arm}
+use Rattle.taking.specs.Laws.Steps.{row_taken, pivot_taken, ask_taken}
 use Rattle.taking.proofs.take.take_later.Goals as goal
 
 pub returns-in-Row : goal.returns-in-Row
@@ -24,8 +23,3 @@ returns-in-Ask c =
     let args = c.args in
     let done = ask_taken args.day args.list.now args.pivots.now args.out.now c.requires.in_room c.requires.given_value _ _ _ c.requires.zeros c.take_ask.ensures in
     record { frame_taken = rw c.in-Ask.is done.0; zeros_2 = done.1 }
-
-pub returns-in_default : goal.returns-in_default
-returns-in_default c =
-    let args = c.args in
-    record { frame_taken = other_taken args.day args.list.now args.pivots.now args.out.now c.requires.in_room c.requires.given_value args.frame (no_arm args.frame c.in_default.in_default-own.keys4); zeros_2 = c.requires.zeros }
