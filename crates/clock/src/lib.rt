@@ -5,66 +5,37 @@ ghost use Rattle.std.specs.Prelude.{◌≡◌, ◌+◌};
 ghost use Rattle.clock.specs.Time.{made_of, gap_of, last_reading};
 
 // A reading of the clock.
-#[derive(Clone, Copy)]
+#[derive(Clone, Copy, PartialEq, Eq, PartialOrd, Ord)]
 pub struct Reading(pub u32);
 
 // A length of time.
-#[derive(Clone, Copy)]
+#[derive(Clone, Copy, PartialEq, Eq, PartialOrd, Ord)]
 pub struct Length(pub u32);
-
-// A reading, or past the horizon.
-#[derive(Clone, Copy)]
-pub enum Made {
-    At(Reading),
-    Past,
-}
-
-// The length from an earlier reading to a later one, or none where the first is the later.
-#[derive(Clone, Copy)]
-pub enum Gap {
-    Of(Length),
-    Before,
-}
 
 impl Reading {
     // The last reading there is: 72 hours.
     pub const HORIZON: Reading = Reading(259200);
 
-    // The reading at x seconds.
-    pub fn of(x: u32) -> Made
+    // The reading at x seconds, or none past the horizon.
+    pub fn of(x: u32) -> Option<Reading>
         ensures { result ≡ made_of x }
     {
-        let last = Reading::HORIZON;
-        if x <= last.0 {
-            Made::At(Reading(x))
-        } else {
-            Made::Past
-        }
+        let reading = Reading(x);
+        (reading <= Reading::HORIZON).then_some(reading)
     }
 
-    // A length on from this reading; the sum is exact.
-    pub fn plus(self, length: Length) -> Made
+    // A length on from this reading, or none past the horizon; the sum is exact.
+    pub fn plus(self, length: Length) -> Option<Reading>
         ensures { result ≡ made_of (self.0 + length.0) }
     {
-        let last = Reading::HORIZON;
-        if self.0 > last.0 {
-            return Made::Past;
-        }
-        if length.0 > last.0 - self.0 {
-            return Made::Past;
-        }
-        Made::At(Reading(self.0 + length.0))
+        Reading::of(self.0.checked_add(length.0)?)
     }
 
-    // This reading less an earlier one.
-    pub fn minus(self, earlier: Reading) -> Gap
+    // This reading less an earlier one, or none where the other is the later.
+    pub fn minus(self, earlier: Reading) -> Option<Length>
         ensures { result ≡ gap_of self.0 earlier.0 }
     {
-        if self.0 < earlier.0 {
-            Gap::Before
-        } else {
-            Gap::Of(Length(self.0 - earlier.0))
-        }
+        self.0.checked_sub(earlier.0).map(Length)
     }
 }
 
