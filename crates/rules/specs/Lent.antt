@@ -25,12 +25,12 @@ pub record Stands (day : Day) (A W u v : ℕ) (number : ℕ) : Type 0 where
   pub is : Earliest day A W u v distance
   pub as_number : number ≡ in_numbers distance
 
--- things stand at the front of a room, each as `width` numbers, and the places after them are kept
-pub record Copied {A : Type 0} (width : ℕ) (numbers : A → List ℕ) (xs : List A) (old : List ℕ) (count : ℕ) (new : List ℕ) : Type 0 where
+-- things stand at the front of a room, each as `width` parts, and the places after them are kept
+pub record Copied {A B : Type 0} (width : ℕ) (parts : A → List B) (xs : List A) (old : List B) (count : ℕ) (new : List B) : Type 0 where
   pub number : count ≡ length xs
-  pub list : new ≡ written numbers xs ++ drop (count * width) old
+  pub list : new ≡ written parts xs ++ drop (count * width) old
 
 -- one more thing after the first k, where b says so
-pub record Kept {A : Type 0} (width : ℕ) (numbers : A → List ℕ) (b : Bool) (x : A) (k : ℕ) (old : List ℕ) (count : ℕ) (new : List ℕ) : Type 0 where
+pub record Kept {A B : Type 0} (width : ℕ) (parts : A → List B) (b : Bool) (x : A) (k : ℕ) (old : List B) (count : ℕ) (new : List B) : Type 0 where
   pub number : count ≡ cond b (k + 1) k
-  pub list : new ≡ cond b (sets old (k * width) (numbers x)) old
+  pub list : new ≡ cond b (sets old (k * width) (parts x)) old

@@ -42,67 +42,67 @@ module _ {A : Type 0} (thing : ℕ → A) where
   things_shift other h zero i = refl
   things_shift other h (suc k) i = cc (h i, things_shift other h k (suc i))
 
-module _ {A : Type 0} (width : ℕ) (numbers : A → List ℕ) (wide : (x : A) → length (numbers x) ≡ width) where
-  pub length_written : (xs : List A) → length (written numbers xs) ≡ length xs * width
+module _ {A B : Type 0} (width : ℕ) (parts : A → List B) (wide : (x : A) → length (parts x) ≡ width) where
+  pub length_written : (xs : List A) → length (written parts xs) ≡ length xs * width
   unfolding written
   length_written [] = sym (zero-mul width)
-  length_written (x ∷ xs) = length-append (numbers x) (written numbers xs) ∙ omega (arith, wide x, length_written xs, suc-mul (length xs) width)
+  length_written (x ∷ xs) = length-append (parts x) (written parts xs) ∙ omega (arith, wide x, length_written xs, suc-mul (length xs) width)
 
   -- what reads one thing, and the next past it, reads all that is written
-  pub written_read : (at : List ℕ → ℕ → A) → ((x : A) (list : List ℕ) (i : ℕ) → at (numbers x ++ list) (suc i) ≡ at list i)
-      → (xs : List A) → ((x : A) → Memᴰ x xs → (list : List ℕ) → at (numbers x ++ list) 0 ≡ x) → things_from (at (written numbers xs)) (length xs) 0 ≡ xs
+  pub written_read : (at : List B → ℕ → A) → ((x : A) (list : List B) (i : ℕ) → at (parts x ++ list) (suc i) ≡ at list i)
+      → (xs : List A) → ((x : A) → Memᴰ x xs → (list : List B) → at (parts x ++ list) 0 ≡ x) → things_from (at (written parts xs)) (length xs) 0 ≡ xs
   unfolding things_from written
   written_read at next [] first = refl
   written_read at next (x ∷ xs) first =
       cc (
-        first x (Memᴰ.head refl) (written numbers xs),
-        things_shift (at (numbers x ++ written numbers xs)) (at (written numbers xs)) (next x (written numbers xs)) (length xs) 0,
+        first x (Memᴰ.head refl) (written parts xs),
+        things_shift (at (parts x ++ written parts xs)) (at (written parts xs)) (next x (written parts xs)) (length xs) 0,
         written_read at next xs (λ y m. first y (Memᴰ.tail m)),
       )
 
 -- of the whole, `count` things are copied, and those left are yet to be
-pub record Copying {A : Type 0} (width : ℕ) (numbers : A → List ℕ) (whole left : List A) (old : List ℕ) (count : ℕ) (new : List ℕ) : Type 0 where
-  pub front : take (count * width) new ++ written numbers left ≡ written numbers whole
+pub record Copying {A B : Type 0} (width : ℕ) (parts : A → List B) (whole left : List A) (old : List B) (count : ℕ) (new : List B) : Type 0 where
+  pub front : take (count * width) new ++ written parts left ≡ written parts whole
   pub back : drop (count * width) new ≡ drop (count * width) old
   pub number : count + length left ≡ length whole
   pub long : length new ≡ length old
 
-module _ {A : Type 0} (width : ℕ) (numbers : A → List ℕ) (wide : (x : A) → length (numbers x) ≡ width) where
-  pub copy_none : (xs : List A) (old : List ℕ) → Copying width numbers xs xs old 0 old
+module _ {A B : Type 0} (width : ℕ) (parts : A → List B) (wide : (x : A) → length (parts x) ≡ width) where
+  pub copy_none : (xs : List A) (old : List B) → Copying width parts xs xs old 0 old
   copy_none xs old = record { front = rw (zero-mul width); back = refl; number = omega arith; long = refl }
 
-  copy_one : (whole xs : List A) (x : A) (old : List ℕ) (count : ℕ) (new : List ℕ) → count * width + width ≤ length new
-      → Copying width numbers whole (x ∷ xs) old count new → Copying width numbers whole xs old (count + 1) (sets new (count * width) (numbers x))
+  copy_one : (whole xs : List A) (x : A) (old : List B) (count : ℕ) (new : List B) → count * width + width ≤ length new
+      → Copying width parts whole (x ∷ xs) old count new → Copying width parts whole xs old (count + 1) (sets new (count * width) (parts x))
   unfolding written
   copy_one whole xs x old count new room h =
       record {
-        front = rw (next, split, take_at front (drop (at + width) new) (at + width) fits) (append_assoc (take at new) (numbers x) (written numbers xs) ∙ h.front);
+        front = rw (next, split, take_at front (drop (at + width) new) (at + width) fits) (append_assoc (take at new) (parts x) (written parts xs) ∙ h.front);
         back = rw (next, split, drop_at front (drop (at + width) new) (at + width) fits) (sym (drop-drop width at new) ∙ (ap (drop width) h.back ∙ drop-drop width at old));
         number = omega arith;
-        long = length-sets new at (numbers x) ∙ h.long;
+        long = length-sets new at (parts x) ∙ h.long;
       }
     where
       at : ℕ
       at = count * width
 
-      front : List ℕ
-      front = take at new ++ numbers x
+      front : List B
+      front = take at new ++ parts x
 
       next : (count + 1) * width ≡ at + width
       next = rw (add-one count) (suc-mul count width)
 
       fits : length front ≡ at + width
-      fits = length-append (take at new) (numbers x) ∙ omega (arith, length-take-le at new (omega arith), wide x)
+      fits = length-append (take at new) (parts x) ∙ omega (arith, length-take-le at new (omega arith), wide x)
 
-      split : sets new at (numbers x) ≡ front ++ drop (at + width) new
-      split = let e : at + length (numbers x) ≤ length new = omega (arith, wide x) in rw (wide x) at (sets-eq (numbers x) new at e)
+      split : sets new at (parts x) ≡ front ++ drop (at + width) new
+      split = let e : at + length (parts x) ≤ length new = omega (arith, wide x) in rw (wide x) at (sets-eq (parts x) new at e)
 
-  pub copy_step : (b : Bool) (whole xs : List A) (x : A) (old : List ℕ) (count count' : ℕ) (new new' : List ℕ) → count * width + width ≤ length new
-      → Copying width numbers whole (cond b (x ∷ xs) xs) old count new → Kept width numbers b x count new count' new' → Copying width numbers whole xs old count' new'
+  pub copy_step : (b : Bool) (whole xs : List A) (x : A) (old : List B) (count count' : ℕ) (new new' : List B) → count * width + width ≤ length new
+      → Copying width parts whole (cond b (x ∷ xs) xs) old count new → Kept width parts b x count new count' new' → Copying width parts whole xs old count' new'
   copy_step true whole xs x old count count' new new' room h k = rw (k.number, k.list) (copy_one whole xs x old count new room h)
   copy_step false whole xs x old count count' new new' room h k = rw (k.number, k.list) h
 
-  pub copy_end : (whole : List A) (old : List ℕ) (count : ℕ) (new : List ℕ) → Copying width numbers whole [] old count new → Copied width numbers whole old count new
+  pub copy_end : (whole : List A) (old : List B) (count : ℕ) (new : List B) → Copying width parts whole [] old count new → Copied width parts whole old count new
   unfolding written
   copy_end whole old count new h =
       record {
@@ -111,18 +111,18 @@ module _ {A : Type 0} (width : ℕ) (numbers : A → List ℕ) (wide : (x : A) �
       }
 
 -- what was copied stands at the front
-pub copied_front : {A : Type 0} (width : ℕ) (numbers : A → List ℕ) → ((x : A) → length (numbers x) ≡ width) → {xs : List A} {old new : List ℕ} {count : ℕ}
-    → Copied width numbers xs old count new → (end : ℕ) → end ≡ count * width → take end new ≡ written numbers xs
-copied_front width numbers wide {xs} {old} {new} {count} c end e =
-    let long : length (written numbers xs) ≡ end = rw (sym c.number, sym e) at (length_written width numbers wide xs) in
-    rw c.list (take_at (written numbers xs) (drop (count * width) old) end long)
+pub copied_front : {A B : Type 0} (width : ℕ) (parts : A → List B) → ((x : A) → length (parts x) ≡ width) → {xs : List A} {old new : List B} {count : ℕ}
+    → Copied width parts xs old count new → (end : ℕ) → end ≡ count * width → take end new ≡ written parts xs
+copied_front width parts wide {xs} {old} {new} {count} c end e =
+    let long : length (written parts xs) ≡ end = rw (sym c.number, sym e) at (length_written width parts wide xs) in
+    rw c.list (take_at (written parts xs) (drop (count * width) old) end long)
 
-pub kept_most : {A : Type 0} {width : ℕ} {numbers : A → List ℕ} {b : Bool} {x : A} {count count' : ℕ} {new new' : List ℕ} → Kept width numbers b x count new count' new' → count' ≤ count + 1
+pub kept_most : {A B : Type 0} {width : ℕ} {parts : A → List B} {b : Bool} {x : A} {count count' : ℕ} {new new' : List B} → Kept width parts b x count new count' new' → count' ≤ count + 1
 kept_most {b = true} k = omega (arith, k.number)
 kept_most {b = false} k = omega (arith, k.number)
 
 -- a room has one content after the copying, and one count
-pub copied_single : {A : Type 0} {width : ℕ} {numbers : A → List ℕ} {xs : List A} {old new new' : List ℕ} {count count' : ℕ}
-    → Copied width numbers xs old count new → Copied width numbers xs old count' new' → (count ≡ count') × (new ≡ new')
-copied_single {width = width} {numbers = numbers} {xs = xs} {old = old} h g =
-    let e = h.number ∙ sym g.number in (e, h.list ∙ (ap (λ (k : ℕ). written numbers xs ++ drop (k * width) old) e ∙ sym g.list))
+pub copied_single : {A B : Type 0} {width : ℕ} {parts : A → List B} {xs : List A} {old new new' : List B} {count count' : ℕ}
+    → Copied width parts xs old count new → Copied width parts xs old count' new' → (count ≡ count') × (new ≡ new')
+copied_single {width = width} {parts = parts} {xs = xs} {old = old} h g =
+    let e = h.number ∙ sym g.number in (e, h.list ∙ (ap (λ (k : ℕ). written parts xs ++ drop (k * width) old) e ∙ sym g.list))
