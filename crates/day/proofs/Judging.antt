@@ -6,15 +6,17 @@ use mathlib.Core.Logic.{◌⊎◌, inl, inr}
 use mathlib.Core.Bool.{Bool, true, false, cond, ◌&&◌, and-false}
 use mathlib.Core.List.{List, [], ◌∷◌}
 use mathlib.Core.Option.{Option, none, some}
+use Rattle.std.specs.Prelude.{Result, Ok, Err}
 use lib.Dec.{leb, ltb}
 use borrow.Author.Tests.{leb-false, lt-leb, ltb-true, lt-ltb}
 use Rattle.rules.specs.Words.{Least, At, at_first, at_later}
 use Rattle.rules.specs.Day.{last_client, Row, Faulty, unsound, falls, Overowned, overowned}
-use Rattle.rules.specs.Table.{row_fault, check_6, office_rows, FirstWrong}
+use Rattle.rules.specs.Table.{row_fault, Check, Clear, Refuses, check_6, office_rows, FirstWrong}
 use Rattle.rules.proofs.Laws.Single.{least_single}
 use Rattle.rules.proofs.Laws.Good.{at_same}
+use Rattle.day.specs.declared.refusal.Refusal.{Refusal}
 use Rattle.day.specs.Rows.{soundb, rightb}
-use Rattle.day.specs.Verdicts.{Refusal, first_said, fault_says, office_number, office_says, verdict_of, Judges}
+use Rattle.day.specs.Verdicts.{Said, first_said, fault_says, office_number, office_says, told, Judges}
 use Rattle.day.proofs.Sounding.{not_both, sound_of, of_sound}
 use Rattle.day.proofs.Saying.{start_before, SaidAt, Finds, first_said_finds}
 
@@ -81,10 +83,22 @@ said_faulty {n} {rs} {i} {k} s =
 faulty_said : {n : ℕ} {rs : List Row} {i : ℕ} → Faulty n rs i → SaidAt (fault_says n) 0 rs i row_fault
 faulty_said f = let w = faulty_wrong f in record { row = w.row; at = w.at; said = rw w.fails }
 
-pub fault_judges : (n : ℕ) (rs : List Row) → Judges (check_6 n rs ∷ []) (verdict_of (first_said (fault_says n) 0 0 rs))
-fault_judges n rs = go (first_said (fault_says n) 0 0 rs) (first_said_finds (fault_says n) 0 0 rs)
+-- what is said is right
+abbrev JudgesSaid : List Check → Option Said → Type 0
+JudgesSaid cs none = Clear cs
+JudgesSaid cs (some x) = Refuses cs x.number x.place
+
+judges_told : (cs : List Check) (o : Option Said) (v : Result (Unit {0}) Refusal) → told v ≡ o → JudgesSaid cs o → Judges cs v
+judges_told cs o v e h = go v (subst (JudgesSaid cs) (sym e) h)
   where
-    go : (o : Option Refusal) → Finds (fault_says n) 0 0 rs o → Judges (check_6 n rs ∷ []) (verdict_of o)
+    go : (v : Result (Unit {0}) Refusal) → JudgesSaid cs (told v) → Judges cs v
+    go (Ok x) k = k
+    go (Err r) k = k
+
+pub fault_judges : (n : ℕ) (rs : List Row) (v : Result (Unit {0}) Refusal) → told v ≡ first_said (fault_says n) 0 0 rs → Judges (check_6 n rs ∷ []) v
+fault_judges n rs v e = judges_told (check_6 n rs ∷ []) _ v e (go (first_said (fault_says n) 0 0 rs) (first_said_finds (fault_says n) 0 0 rs))
+  where
+    go : (o : Option Said) → Finds (fault_says n) 0 0 rs o → JudgesSaid (check_6 n rs ∷ []) o
     go none h = (λ place f. h place row_fault (faulty_said f.holds), tt)
     go (some x) h =
         let t = said_faulty h.2.here in
@@ -125,13 +139,13 @@ noted_off : {n : ℕ} {rs : List Row} {i k : ℕ} → Noted n rs i k → Off n r
 noted_off (noted_fault e f) = inl f
 noted_off (noted_owner e o f) = inr o
 
-pub office_judges : (n : ℕ) (rs : List Row) → Judges (office_rows n rs) (verdict_of (first_said (office_says n) 0 0 rs))
-office_judges n rs = go (first_said (office_says n) 0 0 rs) (first_said_finds (office_says n) 0 0 rs)
+pub office_judges : (n : ℕ) (rs : List Row) (v : Result (Unit {0}) Refusal) → told v ≡ first_said (office_says n) 0 0 rs → Judges (office_rows n rs) v
+office_judges n rs v says = judges_told (office_rows n rs) _ v says (go (first_said (office_says n) 0 0 rs) (first_said_finds (office_says n) 0 0 rs))
   where
     never : Finds (office_says n) 0 0 rs none → (P : ℕ → Type 0) (place : ℕ) → FirstWrong n rs P place → ⊥
     never h P place w = let s = off_said w.first.holds in h place s.0 s.1
 
-    go : (o : Option Refusal) → Finds (office_says n) 0 0 rs o → Judges (office_rows n rs) (verdict_of o)
+    go : (o : Option Said) → Finds (office_says n) 0 0 rs o → JudgesSaid (office_rows n rs) o
     go none h = (never h (Faulty n rs), (never h (Overowned rs), tt))
     go (some x) h = note (subst (λ (i : ℕ). Noted n rs i x.number) e (said_noted h.2.here))
       where
@@ -141,7 +155,7 @@ office_judges n rs = go (first_said (office_says n) 0 0 rs) (first_said_finds (o
         least : Noted n rs x.place x.number → Least (Off n rs) x.place
         least m = record { holds = noted_off m; least = λ j f. let s = off_said f in omega (arith, h.2.first j s.0 s.1) }
 
-        note : Noted n rs x.place x.number → Judges (office_rows n rs) (verdict_of (some x))
+        note : Noted n rs x.place x.number → JudgesSaid (office_rows n rs) (some x)
         note (noted_fault k f) = inl (k, record { first = least (noted_fault k f); wrong = f })
         note (noted_owner k o no_fault) =
             inr (

@@ -1,4 +1,3 @@
 pub mod Sounding
-pub mod Storing
 pub mod Saying
 pub mod Judging

@@ -14,13 +14,8 @@ fn put_row(rows: &mut [u32], k: usize, r: Row)
     ensures { rows.new ≡ sets rows.old (k * row_width) (numbers (row_of r)) }
 {
     let at = k * ROW_WIDTH;
-    rows[at] = r.from;
-    rows[at + 1] = r.to;
-    let start = r.start;
-    rows[at + 2] = start.0;
-    let travel = r.travel;
-    rows[at + 3] = travel.0;
-    rows[at + 4] = r.owner;
+    let numbers = [r.from, r.to, r.start.0, r.travel.0, r.owner];
+    rows[at..at + ROW_WIDTH].copy_from_slice(&numbers);
 }
 
 // Keeps a row after k others, if the asker sees it; answers how many there are then.
@@ -40,13 +35,9 @@ pub fn own_rows(list: &[u32], asker: u32, rows: &mut [u32]) -> usize
     requires { length list.now ≤ length rows.old }
     ensures { Copied row_width numbers (own asker (rows_of list.now)) rows.old result rows.new }
 {
-    let m = list.len() / ROW_WIDTH;
-    let mut k: usize = 0;
-    let mut i: usize = 0;
-    while i < m {
-        let r = row_at(list, i);
-        k = keep(rows, k, r, asker);
-        i += 1;
+    let mut k = 0;
+    for i in 0..list.len() / ROW_WIDTH {
+        k = keep(rows, k, row_at(list, i), asker);
     }
     k
 }

@@ -3,7 +3,7 @@ ghost use Rattle.std.specs.Prelude.{◌≡◌, ◌/◌, ◌<◌, length};
 ghost use Rattle.rules.specs.Day.{row_width, row_at, sees};
 ghost use Rattle.day.specs.Rows.{row_of, soundb, rightb};
 
-use clock::{Length, Made, Reading};
+use clock::{Length, Reading};
 
 // How many numbers a row takes.
 pub const ROW_WIDTH: usize = 5;
@@ -44,44 +44,25 @@ impl Row {
     pub fn seen_by(self, asker: u32) -> bool
         ensures { result ≡ sees asker (row_of self) }
     {
-        if self.owner == 0 {
-            return true;
-        }
-        if self.owner == asker { true } else { false }
+        self.owner == 0 || self.owner == asker
     }
 
     // Whether the row is sound where there are n stops.
+    #[tactic(auto, unfolding(crate::specs::Rows::soundb))]
     pub fn is_sound(self, n: u32) -> bool
         ensures { result ≡ soundb n (row_of self) }
     {
-        if self.from >= n {
-            return false;
-        }
-        if self.to >= n {
-            return false;
-        }
-        if self.from == self.to {
-            return false;
-        }
-        let travel = self.travel;
-        if travel.0 < 1 {
-            return false;
-        }
-        let start = self.start;
-        match start.plus(travel) {
-            Made::At(_) => true,
-            Made::Past => false,
-        }
+        self.from < n
+            && self.to < n
+            && self.from != self.to
+            && self.travel >= Length(1)
+            && self.start.plus(self.travel).is_some()
     }
 
     // Whether the row is sound, and starts at last or later.
     pub fn is_right(self, n: u32, last: Reading) -> bool
         ensures { result ≡ rightb n last.0 (row_of self) }
     {
-        let start = self.start;
-        if start.0 < last.0 {
-            return false;
-        }
-        self.is_sound(n)
+        self.start >= last && self.is_sound(n)
     }
 }
