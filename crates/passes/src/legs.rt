@@ -7,7 +7,7 @@ ghost use Rattle.rules.specs.Lent.{Kept, Copied};
 ghost use Rattle.day.specs.Rows.{row_of};
 ghost use Rattle.passes.specs.Legs.{leg_width, leg_of, fitsb, legs_of, leg_numbers, leg_list, LegRead, made_leg};
 
-use clock::{Gap, Length, Made, Reading};
+use clock::{Length, Reading};
 use day::{ROW_WIDTH, Row, row_at};
 
 // How many numbers a leg takes.
@@ -49,16 +49,16 @@ fn make_leg(r: Row, a: Reading, w: Reading) -> MadeLeg
     ensures { result ≡ made_leg a.0 w.0 (row_of r) }
 {
     let start = r.start;
-    let Gap::Of(since) = start.minus(a) else {
+    let Some(since) = start.minus(a) else {
         return MadeLeg::Outside;
     };
-    let Made::At(arrival) = start.plus(r.travel) else {
+    let Some(arrival) = start.plus(r.travel) else {
         return MadeLeg::Outside;
     };
     if arrival.0 > w.0 {
         return MadeLeg::Outside;
     }
-    let Gap::Of(arrive) = arrival.minus(a) else {
+    let Some(arrive) = arrival.minus(a) else {
         return MadeLeg::Outside;
     };
     MadeLeg::Of(Leg {
