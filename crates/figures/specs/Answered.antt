@@ -1,13 +1,14 @@
--- The answers that a farthest stop and the end of a search give; 0 is none.
-use Rattle.std.specs.Prelude.{ℕ, cond, List, eqb}
+-- The answers that a farthest stop, the end of a search and a refusal give; 0 is none.
+use Rattle.std.specs.Prelude.{ℕ, cond, List, eqb, Option, Some, None}
+use Rattle.clock.specs.declared.Length.{Length}
 use Rattle.rules.specs.Day.{Row}
 use Rattle.passes.specs.Backward.{distances_to}
 use Rattle.search.specs.Farthest.{farthest_in}
 use Rattle.search.specs.Pivots.{kept_joined}
 use Rattle.search.specs.declared.far.Far.{Far}
 use Rattle.search.specs.declared.state.Search.{Search}
-use Rattle.figures.specs.declared.answers.Eccentricity.{Eccentricity}
-use Rattle.figures.specs.declared.answers.Eccentricity.TheVariants as eccentricity
+use Rattle.day.specs.Refusals.{number_of, place_of}
+use Rattle.day.specs.declared.refusal.Refusal.{Refusal}
 use Rattle.figures.specs.declared.answers.Answer.{Answer}
 use Rattle.figures.specs.declared.answers.Answer.TheVariants as answer
 
@@ -19,8 +20,11 @@ far_in ls n v = farthest_in (distances_to v ls n 0) v n
 abbrev pub far_kept : List Row → (onward into : List ℕ) (count n v : ℕ) → Far
 far_kept ls onward into count n v = farthest_in (kept_joined onward into count n v (distances_to v ls n 0)) v n
 
-abbrev pub eccentricity_of : Far → Eccentricity
-eccentricity_of far = cond (eqb far.value 0) eccentricity.Nothing (eccentricity.Value (record { 0 = far.value }))
+abbrev pub eccentricity_of : Far → Option Length
+eccentricity_of far = cond (eqb far.value 0) None (Some (record { 0 = far.value }))
 
 abbrev pub answer_of : Search → Answer
 answer_of st = cond (eqb st.best 0) (answer.Nothing st.visits) (answer.Value (record { 0 = st.best }) st.source st.target st.visits)
+
+abbrev pub refused_by : Refusal → Answer
+refused_by r = answer.Refused (number_of r) (place_of r)

@@ -1,5 +1,5 @@
 -- The table in the parts in which the calls check it, and what the first part leaves.
-use Rattle.std.specs.Prelude.{ℕ, ◌+◌, ◌*◌, ◌/◌, ◌≤◌, ◌<◌, ◌≡◌, ◌⊎◌, List, [], ◌∷◌, ◌++◌, length, take}
+use Rattle.std.specs.Prelude.{ℕ, ◌+◌, ◌*◌, ◌/◌, ◌≤◌, ◌<◌, ◌≡◌, ◌⊎◌, List, [], ◌∷◌, ◌++◌, length, take, Result, Ok, Err}
 use Rattle.rules.specs.Clock.{horizon}
 use Rattle.rules.specs.Day.{most_stops, most_rows, row_width, Row, rows_of, Ask, asker's_rows}
 use Rattle.rules.specs.Pivots.{pivots_of}
@@ -10,8 +10,8 @@ use Rattle.rules.specs.Faultless.{Good}
 use Rattle.passes.specs.Legs.{leg_width, leg_numbers, legs_of}
 use Rattle.passes.specs.Links.{Links}
 use Rattle.passes.specs.Days.{rows_day}
-use Rattle.figures.specs.declared.ask.Prepared.{Prepared}
-use Rattle.figures.specs.declared.ask.Prepared.TheVariants as prepared
+use Rattle.day.specs.Refusals.{number_of, place_of}
+use Rattle.day.specs.declared.refusal.Refusal.{Refusal}
 
 -- numbers 1, 2 and 3
 abbrev pub list_checks : (list : List ℕ) (n : ℕ) → List Check
@@ -50,11 +50,11 @@ pub record Ready (n A W : ℕ) (rows : List ℕ) : Type 0 where
 
 -- numbers 1 to 6 by cases: the asker's rows in the front of the room, or a refusal; by numbers 1 to 5 with the room unchanged,
 -- or by number 6 with the rows in it
-abbrev pub Prepares : Ask → (old : List ℕ) → Prepared → (new : List ℕ) → Type 0
-Prepares q old (prepared.Rows k) new = Clear (first_checks q) × Copied row_width numbers (asker's_rows q) old k new
-Prepares q old (prepared.Refused number place) new =
-    (Refuses (plain_checks q) number place × (new ≡ old))
-    ⊎ (Clear (plain_checks q) × Refuses (own_check q) number place × ((k : ℕ) × Copied row_width numbers (asker's_rows q) old k new))
+abbrev pub Prepares : Ask → (old : List ℕ) → Result ℕ Refusal → (new : List ℕ) → Type 0
+Prepares q old (Ok k) new = Clear (first_checks q) × Copied row_width numbers (asker's_rows q) old k new
+Prepares q old (Err r) new =
+    (Refuses (plain_checks q) (number_of r) (place_of r) × (new ≡ old))
+    ⊎ (Clear (plain_checks q) × Refuses (own_check q) (number_of r) (place_of r) × ((k : ℕ) × Copied row_width numbers (asker's_rows q) old k new))
 
 -- the legs of some rows stand in the front of a room, up to `end`, and are linked
 pub record LegsLaid (A W : ℕ) (rs : List Row) (legs next follow : List ℕ) (end : ℕ) (legs' head' next' follow' : List ℕ) : Type 0 where

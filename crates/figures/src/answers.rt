@@ -1,27 +1,13 @@
 // The answers of the calls.
 ghost use Rattle.std.specs.Prelude.{◌≡◌};
-ghost use Rattle.figures.specs.Answered.{eccentricity_of, answer_of};
+ghost use Rattle.figures.specs.Answered.{eccentricity_of, answer_of, refused_by};
 
 use clock::Length;
+use day::Refusal;
 use search::{Far, Search};
 
-// A call that fills a list: done, or a refusal.
-#[derive(Clone, Copy)]
-pub enum Filled {
-    Done,
-    Refused { number: u32, place: u32 },
-}
-
-// An eccentricity: a length, none, or a refusal.
-#[derive(Clone, Copy)]
-pub enum Eccentricity {
-    Value(Length),
-    Nothing,
-    Refused { number: u32, place: u32 },
-}
-
-// A diameter: a value with its pair and the visits, none with the visits, or a refusal.
-#[derive(Clone, Copy)]
+// A diameter: a value with its pair and the visits, none with the visits, or a refusal with its number and place.
+#[derive(Clone, Copy, PartialEq, Eq)]
 pub enum Answer {
     Value {
         value: Length,
@@ -38,34 +24,37 @@ pub enum Answer {
     },
 }
 
-// The office check: the number of rows, or a refusal.
-#[derive(Clone, Copy)]
-pub enum Office {
-    Rows(u32),
-    Refused { number: u32, place: u32 },
+// The answer that a search ends with.
+impl From<Search> for Answer {
+    ghost from_gives = { λ st r. r ≡ answer_of st };
+
+    fn from(st: Search) -> Answer {
+        if st.best == 0 {
+            return Answer::Nothing { visits: st.visits };
+        }
+        Answer::Value {
+            value: Length(st.best),
+            from: st.source,
+            to: st.target,
+            visits: st.visits,
+        }
+    }
+}
+
+impl From<Refusal> for Answer {
+    ghost from_gives = { λ x r. r ≡ refused_by x };
+
+    fn from(refusal: Refusal) -> Answer {
+        Answer::Refused {
+            number: refusal.number(),
+            place: refusal.place(),
+        }
+    }
 }
 
 // The eccentricity that a farthest stop shows.
-pub(crate) fn eccentricity_of(far: Far) -> Eccentricity
+pub(crate) fn eccentricity_of(far: Far) -> Option<Length>
     ensures { result ≡ eccentricity_of far }
 {
-    if far.value == 0 {
-        return Eccentricity::Nothing;
-    }
-    Eccentricity::Value(Length(far.value))
-}
-
-// The answer that a search ends with.
-pub(crate) fn answer_of(st: Search) -> Answer
-    ensures { result ≡ answer_of st }
-{
-    if st.best == 0 {
-        return Answer::Nothing { visits: st.visits };
-    }
-    Answer::Value {
-        value: Length(st.best),
-        from: st.source,
-        to: st.target,
-        visits: st.visits,
-    }
+    (far.value > 0).then_some(Length(far.value))
 }

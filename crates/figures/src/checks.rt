@@ -1,10 +1,11 @@
 // The checks of the table that the calls share.
 ghost use Rattle.day.specs.Verdicts.{Judges};
 ghost use Rattle.figures.specs.Parts.{list_checks, plain_checks};
-ghost use Rattle.figures.specs.Promises.{ask};
+ghost use Rattle.figures.specs.Promises.{asked};
 
-use clock::{Made, Reading};
-use day::{LAST_CLIENT, MOST_ROWS, ROW_WIDTH, Verdict};
+use crate::ask::Ask;
+use clock::Reading;
+use day::{LAST_CLIENT, MOST_ROWS, ROW_WIDTH, Refusal};
 
 // How many stops there are at most.
 const MOST_STOPS: u32 = 256;
@@ -13,62 +14,32 @@ const MOST_STOPS: u32 = 256;
 pub const SCRATCH: usize = 16384;
 
 // Numbers 1, 2 and 3.
-pub(crate) fn list_check(list: &[u32], n: u32) -> Verdict
+pub(crate) fn list_check(list: &[u32], n: u32) -> Result<(), Refusal>
     ensures { Judges (list_checks list.now n) result }
 {
     if list.len() % ROW_WIDTH != 0 {
-        return Verdict::Refused {
-            number: 1,
-            place: 0,
-        };
+        return Err(Refusal::Width);
     }
     let many = list.len() / ROW_WIDTH > MOST_ROWS;
     if many {
-        return Verdict::Refused {
-            number: 2,
-            place: 0,
-        };
+        return Err(Refusal::Rows);
     }
-    if n == 0 {
-        return Verdict::Refused {
-            number: 3,
-            place: 0,
-        };
+    if n == 0 || n > MOST_STOPS {
+        return Err(Refusal::Stops);
     }
-    if n > MOST_STOPS {
-        return Verdict::Refused {
-            number: 3,
-            place: 0,
-        };
-    }
-    Verdict::Fine
+    Ok(())
 }
 
 // Numbers 1 to 5.
-pub(crate) fn plain_check(list: &[u32], n: u32, asker: u32, a: u32, w: u32) -> Verdict
-    ensures { Judges (plain_checks (ask list.now n asker a w)) result }
+pub(crate) fn plain_check(ask: Ask) -> Result<(), Refusal>
+    ensures { Judges (plain_checks (asked ask)) result }
 {
-    let v = list_check(list, n);
-    if let Verdict::Refused { number, place } = v {
-        return Verdict::Refused { number, place };
+    list_check(ask.list, ask.n)?;
+    if ask.asker > LAST_CLIENT {
+        return Err(Refusal::Asker);
     }
-    if asker > LAST_CLIENT {
-        return Verdict::Refused {
-            number: 4,
-            place: 0,
-        };
+    if ask.a > ask.w || Reading::of(ask.w).is_none() {
+        return Err(Refusal::Interval);
     }
-    if a > w {
-        return Verdict::Refused {
-            number: 5,
-            place: 0,
-        };
-    }
-    match Reading::of(w) {
-        Made::At(_) => Verdict::Fine,
-        Made::Past => Verdict::Refused {
-            number: 5,
-            place: 0,
-        },
-    }
+    Ok(())
 }
