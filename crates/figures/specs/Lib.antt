@@ -1,7 +1,10 @@
 pub mod Promises
 pub mod Parts
+pub mod Single
+pub mod Own
 pub mod Answered
 pub mod Starred
 pub mod Pivots
+pub mod Visiting
 pub mod Laws
 pub mod Demands

@@ -7,8 +7,8 @@ use Rattle.rules.specs.Struck.{numbers}
 use Rattle.rules.specs.Lent.{Stands, Copied}
 use Rattle.rules.specs.Table.{Check, Takes, check_1, check_2, check_3, check_4, check_5, check_6, check_7, check_8, check_9, check_10, check_12, Clear, Refuses}
 use Rattle.rules.specs.Faultless.{Good}
-use Rattle.passes.specs.Legs.{leg_width, leg_numbers, legs_of}
-use Rattle.passes.specs.Links.{Links}
+use Rattle.passes.specs.Legs.{legs_of, legs_in, Laid}
+use Rattle.passes.specs.Links.{Orderly}
 use Rattle.passes.specs.Days.{rows_day}
 use Rattle.day.specs.Refusals.{number_of, place_of}
 use Rattle.day.specs.declared.refusal.Refusal.{Refusal}
@@ -56,13 +56,11 @@ Prepares q old (Err r) new =
     (Refuses (plain_checks q) (number_of r) (place_of r) × (new ≡ old))
     ⊎ (Clear (plain_checks q) × Refuses (own_check q) (number_of r) (place_of r) × ((k : ℕ) × Copied row_width numbers (asker's_rows q) old k new))
 
--- the legs of some rows stand in the front of a room, up to `end`, and are linked
-pub record LegsLaid (A W : ℕ) (rs : List Row) (legs next follow : List ℕ) (end : ℕ) (legs' head' next' follow' : List ℕ) : Type 0 where
-  pub count : ℕ
-  pub copied : Copied leg_width leg_numbers (legs_of A W rs) legs count legs'
-  pub ends : end ≡ count * leg_width
-  pub within : end ≤ length legs'
-  pub links : Links (take end legs') next follow head' next' follow'
+-- numbers are the legs of some rows, and can be passed over and linked
+pub record LegsLaid (n A W : ℕ) (rs : List Row) (legs : List ℕ) : Type 0 where
+  pub read : legs_in legs ≡ legs_of A W rs
+  pub laid : Laid n legs
+  pub orderly : Orderly legs
 
 -- each source u has its own stretch of the table, from place u × n
 abbrev pub Stretched : List Row → (n A W : ℕ) → (place number : ℕ) → Type 0

@@ -2,10 +2,16 @@
 ghost use Rattle.std.specs.Prelude.{◌*◌, ◌≤◌, length};
 ghost use Rattle.rules.specs.Day.{most_rows, row_width};
 ghost use Rattle.figures.specs.Parts.{Prepares};
+ghost use Rattle.figures.specs.Own.{Owns};
 ghost use Rattle.figures.specs.Promises.{asked};
 
 use crate::checks::plain_check;
+use crate::own::Own;
+use clock::Reading;
 use day::{ROW_WIDTH, Refusal, first_fault, own_rows};
+
+// How many numbers the rows of a list take at most.
+pub const ROWS_ROOM: usize = 10240;
 
 // What every asking call is given: the day list, the number of stops, who asks, and the interval from a to w.
 #[derive(Clone, Copy)]
@@ -19,13 +25,27 @@ pub struct Ask<'a> {
 
 impl Ask<'_> {
     // Numbers 1 to 6, and the asker's rows in the front of `rows`; answers how many there are.
-    pub(crate) fn prepare(self, rows: &mut [u32]) -> Result<usize, Refusal>
+    fn prepare(self, rows: &mut [u32]) -> Result<usize, Refusal>
         requires { most_rows * row_width ≤ length rows.old }
-        ensures { Prepares (asked self) rows.old result rows.new }
+        ensures { Prepares (asked self.entry) rows.old result rows.new }
     {
         plain_check(self)?;
         let k = own_rows(self.list, self.asker, rows);
         first_fault(&rows[..k * ROW_WIDTH], self.n)?;
         Ok(k)
+    }
+
+    // The same, with the rows as a call goes on from them.
+    pub(crate) fn own<'r>(self, rows: &'r mut [u32]) -> Result<Own<'r>, Refusal>
+        requires { most_rows * row_width ≤ length rows.old }
+        ensures { Owns (asked self.entry) result }
+    {
+        let k = self.prepare(rows)?;
+        Ok(Own {
+            rows: &rows[..k * ROW_WIDTH],
+            n: self.n,
+            a: Reading(self.a),
+            w: Reading(self.w),
+        })
     }
 }

@@ -1,9 +1,13 @@
 // The checks of the table that the calls share.
+ghost use Rattle.std.specs.Prelude.{◌≤◌, [], ◌∷◌, length};
+ghost use Rattle.rules.specs.Lent.{scratch_places, Wiped};
+ghost use Rattle.rules.specs.Table.{check_7, check_10};
 ghost use Rattle.day.specs.Verdicts.{Judges};
 ghost use Rattle.figures.specs.Parts.{list_checks, plain_checks};
-ghost use Rattle.figures.specs.Promises.{asked};
+ghost use Rattle.figures.specs.Promises.{asked, room};
 
 use crate::ask::Ask;
+use crate::own::Own;
 use clock::Reading;
 use day::{LAST_CLIENT, MOST_ROWS, ROW_WIDTH, Refusal};
 
@@ -24,7 +28,8 @@ pub(crate) fn list_check(list: &[u32], n: u32) -> Result<(), Refusal>
     if many {
         return Err(Refusal::Rows);
     }
-    if n == 0 || n > MOST_STOPS {
+    let no_number = n == 0 || n > MOST_STOPS;
+    if no_number {
         return Err(Refusal::Stops);
     }
     Ok(())
@@ -32,7 +37,7 @@ pub(crate) fn list_check(list: &[u32], n: u32) -> Result<(), Refusal>
 
 // Numbers 1 to 5.
 pub(crate) fn plain_check(ask: Ask) -> Result<(), Refusal>
-    ensures { Judges (plain_checks (asked ask)) result }
+    ensures { Judges (plain_checks (asked ask.entry)) result }
 {
     list_check(ask.list, ask.n)?;
     if ask.asker > LAST_CLIENT {
@@ -42,4 +47,36 @@ pub(crate) fn plain_check(ask: Ask) -> Result<(), Refusal>
         return Err(Refusal::Interval);
     }
     Ok(())
+}
+
+impl Own<'_> {
+    // Number 7, for a named stop.
+    pub(crate) fn check_stop(self, stop: u32) -> Result<(), Refusal>
+        ensures { Judges (check_7 self.entry.n (stop ∷ []) ∷ []) result }
+    {
+        if stop < self.n {
+            Ok(())
+        } else {
+            Err(Refusal::Named)
+        }
+    }
+}
+
+// Number 10, for one lent list.
+pub(crate) fn check_room(lent: &[u32], wants: usize) -> Result<(), Refusal>
+    ensures { Judges (check_10 (room lent.now wants ∷ []) ∷ []) result }
+{
+    if lent.len() < wants {
+        Err(Refusal::Room)
+    } else {
+        Ok(())
+    }
+}
+
+// An answer leaves scratch at 0.
+pub(crate) fn wipe(scratch: &mut [u32])
+    requires { scratch_places ≤ length scratch.old }
+    ensures { Wiped scratch.old scratch.new }
+{
+    scratch[..SCRATCH].fill(0);
 }

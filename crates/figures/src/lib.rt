@@ -9,13 +9,12 @@ mod forward;
 mod joined;
 mod lay;
 mod office;
+mod own;
 mod pivots;
 mod visits;
 mod widest;
 
-pub use answers::{Answer, Eccentricity, Filled, Office};
-pub use backward::{backward_eccentricity, distances_to};
-pub use forward::{distances_from, forward_eccentricity, table};
-pub use joined::pivot_diameter;
+pub use answers::Answer;
+pub use ask::Ask;
+pub use day::Refusal;
 pub use office::office_check;
-pub use widest::diameter;

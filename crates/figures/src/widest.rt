@@ -1,57 +1,64 @@
 // The diameter.
 ghost use Rattle.std.specs.Prelude.{◌≡◌, [], ◌∷◌};
-ghost use Rattle.rules.specs.Day.{rows_of};
-ghost use Rattle.rules.specs.Diameter.{LatestEntry};
 ghost use Rattle.rules.specs.Lent.{scratch_places, Wiped};
-ghost use Rattle.passes.specs.Days.{rows_day};
-ghost use Rattle.search.specs.Found.{ReachedPairs};
-ghost use Rattle.figures.specs.Parts.{Ready, last_checks};
-ghost use Rattle.figures.specs.Promises.{ask, room, takes, FulfilsSearch, DiameterPromise};
+ghost use Rattle.search.specs.Found.{Right};
+ghost use Rattle.rules.specs.Table.{table};
+ghost use Rattle.rules.specs.Figures.{Pairs, Bounds};
+ghost use Rattle.figures.specs.Own.{owned, own_table, OwnPairs, OwnBounds};
+ghost use Rattle.figures.specs.Promises.{asked, room, takes, Fulfils, DiameterPromise};
 
-use crate::answers::{Answer, answer_of};
-use crate::ask::{Prepared, prepare};
-use crate::checks::SCRATCH;
-use crate::lay::lay_legs;
-use crate::visits::visit_all;
-use day::ROW_WIDTH;
-use passes::fill;
-use search::bounds;
+use crate::answers::Answer;
+use crate::ask::{Ask, ROWS_ROOM};
+use crate::checks::{SCRATCH, check_room, wipe};
+use crate::lay::LEGS_ROOM;
+use crate::own::Own;
+use crate::visits::{far_to, visit_all};
+use day::Refusal;
+use passes::link;
+use search::{Search, bounds};
 
-// Over own rows: the diameter.
-fn own_diameter(rows: &[u32], n: u32, a: u32, w: u32, scratch: &mut [u32]) -> Answer
-    requires { Ready n a w rows.now }
-    ensures { FulfilsSearch (last_checks (rows_of rows.now) n a w (takes [] [] (room scratch.old scratch_places ∷ []))) (ReachedPairs (rows_of rows.now) a w n) (LatestEntry (rows_day (rows_of rows.now)) a w) (Wiped scratch.old scratch.new) (scratch.new ≡ scratch.old) result }
-{
-    if scratch.len() < SCRATCH {
-        return Answer::Refused {
-            number: 10,
-            place: 0,
-        };
+impl Own<'_> {
+    // The search over all targets.
+    fn search_all(self) -> Search
+        ensures { Right (OwnPairs (owned self.entry)) (OwnBounds (owned self.entry)) result }
+    {
+        let stops = self.n as usize;
+        let mut room = [0u32; LEGS_ROOM];
+        let legs = self.legs(&mut room);
+        let mut head = [0u32; 256];
+        let mut next = [0u32; 2049];
+        let mut follow = [0u32; 2049];
+        link(legs, &mut head, &mut next, &mut follow);
+        let mut entered = [0u32; 256];
+        bounds(legs, stops, &mut entered);
+        visit_all(&entered, stops, |v| far_to(legs, &head, &next, &follow, v, stops))
     }
-    let stops = n as usize;
-    let mut legs = [0u32; 8192];
-    let mut head = [0u32; 256];
-    let mut next = [0u32; 2049];
-    let mut follow = [0u32; 2049];
-    let end = lay_legs(rows, a, w, &mut legs, &mut head, &mut next, &mut follow);
-    let mut entered = [0u32; 256];
-    bounds(&legs[0..end], stops, &mut entered);
-    let st = visit_all(&legs[0..end], &head, &next, &follow, &entered, stops);
-    fill(scratch, SCRATCH, 0);
-    answer_of(st)
+
+    fn diameter(self, scratch: &mut [u32]) -> Result<Search, Refusal>
+        ensures { Fulfils (own_table (owned self.entry) (takes [] [] (room scratch.old scratch_places ∷ []))) (λ st. Right (OwnPairs (owned self.entry)) (OwnBounds (owned self.entry)) st × Wiped scratch.old scratch.new) (scratch.new ≡ scratch.old) result }
+    {
+        check_room(scratch, SCRATCH)?;
+        let st = self.search_all();
+        wipe(scratch);
+        Ok(st)
+    }
 }
 
-// The greatest distance over reached pairs of different stops, for the asker and the interval from a to w.
-pub fn diameter(list: &[u32], n: u32, asker: u32, a: u32, w: u32, scratch: &mut [u32]) -> Answer
-    ensures { DiameterPromise (ask list.now n asker a w) scratch.old result scratch.new }
-{
-    let mut rows = [0u32; 10240];
-    let p = prepare(list, n, asker, a, w, &mut rows);
-    match p {
-        Prepared::Refused { number, place } => Answer::Refused { number, place },
-        Prepared::Rows(k) => {
-            let end = k * ROW_WIDTH;
-            own_diameter(&rows[0..end], n, a, w, scratch)
+impl Ask<'_> {
+    fn diameter_end(self, scratch: &mut [u32]) -> Result<Search, Refusal>
+        ensures { Fulfils (table (asked self.entry) (takes [] [] (room scratch.old scratch_places ∷ []))) (λ st. Right (Pairs (asked self.entry)) (Bounds (asked self.entry)) st × Wiped scratch.old scratch.new) (scratch.new ≡ scratch.old) result }
+    {
+        let mut rows = [0u32; ROWS_ROOM];
+        self.own(&mut rows)?.diameter(scratch)
+    }
+
+    // The greatest distance over reached pairs of different stops.
+    pub fn diameter(self, scratch: &mut [u32]) -> Answer
+        ensures { DiameterPromise (asked self.entry) scratch.old result scratch.new }
+    {
+        match self.diameter_end(scratch) {
+            Ok(st) => Answer::from(st),
+            Err(refusal) => Answer::from(refusal),
         }
     }
 }

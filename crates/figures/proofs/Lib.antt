@@ -1,8 +1,0 @@
-pub mod Judging
-pub mod Preparing
-pub mod Laying
-pub mod Lasting
-pub mod Answering
-pub mod Pivoting
-pub mod Placing
-pub mod Joining
