@@ -14,6 +14,7 @@ CARRY = "bindings/carry/carry.c"
 CALLS = tuple(f"crates/figures_c/src/{name}.rt" for name in ("forward", "backward", "widest", "office"))
 REPLY = "crates/figures_c/src/reply.rt"
 REPLIES = "crates/figures_c/specs/Reply.antt"
+REFUSAL = "crates/day/src/refusal.rt"
 TABLE = "crates/rules/specs/Table.antt"
 
 
@@ -44,9 +45,9 @@ CONSTANTS = {
     "refused": (macro("REFUSED"), rust("REFUSED", ANSWERS), python("_REFUSED"), code("figures_c", "reply", "REFUSED"))
     + ((REPLIES, r"^refused_reply \w+ \w+ = (\d+) ∷"),),
     "an answer": (macro("ANSWER"), rust("ANSWER", ANSWERS), python("_ANSWER"), code("figures_c", "reply", "ANSWER"))
-    + ((REPLIES, r"^\w+ (?:filled\.Done|\(\w+\.(?:Value|Rows) .*\)) = (\d+) ∷"),),
+    + ((REPLIES, r"^(?:done_reply|rows_reply|\w+ \((?:Some|answer\.Value)) .* = (\d+) ∷"),),
     "none": (macro("NONE"), python("_NONE"), code("figures_c", "reply", "NONE"))
-    + ((REPLIES, r"^\w+ \(?\w+\.Nothing.* = (\d+) ∷"),),
+    + ((REPLIES, r"^\w+ (?:None|\(answer\.Nothing .*\)) = (\d+) ∷"),),
     "numbers of a row": (macro("ROW"), rust("ROW"), python("ROW"))
     + (code("day", "row", "ROW_WIDTH"), spec("Day", "row_width")),
     "rows": (macro("MOST_ROWS"), rust("MOST_ROWS"), python("MOST_ROWS"))
@@ -63,7 +64,8 @@ CONSTANTS = {
     + (code("passes", "forward", "UNREACHED"), spec("Routes", "in_numbers unreached"), spec("Forward", "nowhere", "passes")),
     "bytes of stack": (macro("STACK"), rust("STACK")),
     "the last client": (code("day", "row", "LAST_CLIENT"), spec("Day", "last_client")),
-    "the number of a row's fault": (code("day", "faults", "ROW_FAULT"), spec("Table", "row_fault")),
+    "the number of a row's fault": ((REFUSAL, r"^ +Refusal::Row \{ \.\. \} => (\d+),"), spec("Table", "row_fault"))
+    + (spec("Refusals", r"number_of \(refusal\.Row place\)", "day"),),
     "the greatest number": (macro("UNREACHED"), python("_MOST")),
 }
 

@@ -1,117 +1,70 @@
 // The asking calls' cases.
 use crate::{DAY_D, pivots};
-use figures::{
-    Answer, Eccentricity, Filled, backward_eccentricity, diameter, distances_from, distances_to,
-    forward_eccentricity, table,
-};
-
-pub fn word(text: &[u8]) {
-    io::write_all(1, text);
-}
-
-fn number(x: u32) {
-    io::write_all(1, b" ");
-    io::print_decimal(1, x as u64);
-}
-
-fn refused(which: u32, place: u32) {
-    word(b" refused");
-    number(which);
-    number(place);
-    word(b"\n");
-}
+use clock::Length;
+use figures::{Ask, Refusal};
+use std::io;
 
 // The first five places of a list that a call filled.
-fn show_list(answer: Filled, out: &[u32; 25]) {
+fn show_list(
+    rt: &impl Print,
+    name: &str,
+    answer: Result<(), Refusal>,
+    out: &[u32; 25],
+) -> io::Result<()> {
     match answer {
-        Filled::Done => {
-            number(out[0]);
-            number(out[1]);
-            number(out[2]);
-            number(out[3]);
-            number(out[4]);
-            word(b"\n");
-        }
-        Filled::Refused {
-            number: which,
-            place,
-        } => refused(which, place),
+        Ok(()) => println!(rt; "{name}: {} {} {} {} {}", out[0], out[1], out[2], out[3], out[4]),
+        Err(refusal) => println!(rt; "{name}: {refusal}"),
     }
 }
 
-fn show_eccentricity(answer: Eccentricity) {
+fn show_eccentricity(
+    rt: &impl Print,
+    name: &str,
+    answer: Result<Option<Length>, Refusal>,
+) -> io::Result<()> {
     match answer {
-        Eccentricity::Value(length) => {
-            number(length.0);
-            word(b"\n");
-        }
-        Eccentricity::Nothing => word(b" none\n"),
-        Eccentricity::Refused {
-            number: which,
-            place,
-        } => refused(which, place),
-    }
-}
-
-pub fn show_answer(answer: Answer) {
-    match answer {
-        Answer::Value {
-            value,
-            from,
-            to,
-            visits,
-        } => {
-            number(value.0);
-            number(from);
-            number(to);
-            number(visits);
-            word(b"\n");
-        }
-        Answer::Nothing { visits } => {
-            word(b" none");
-            number(visits);
-            word(b"\n");
-        }
-        Answer::Refused {
-            number: which,
-            place,
-        } => refused(which, place),
+        Ok(Some(length)) => println!(rt; "{name}: {}", length.0),
+        Ok(None) => println!(rt; "{name}: none"),
+        Err(refusal) => println!(rt; "{name}: {refusal}"),
     }
 }
 
 // Every asking call on a list of five stops.
-fn ask_all(list: &[u32; 35], asker: u32, a: u32, w: u32) {
+fn ask_all(rt: &impl Print, list: &[u32; 35], asker: u32, a: u32, w: u32) -> io::Result<()> {
+    let ask = Ask {
+        list,
+        n: 5,
+        asker,
+        a,
+        w,
+    };
     let mut scratch = [7u32; 16384];
     let mut out = [7u32; 25];
-    word(b"distances from 0:");
-    let from = distances_from(list, 5, asker, a, w, 0, &mut out);
-    show_list(from, &out);
-    word(b"distances to 4:");
-    let to = distances_to(list, 5, asker, a, w, 4, &mut out, &mut scratch);
-    show_list(to, &out);
-    word(b"table:");
-    let whole = table(list, 5, asker, a, w, &mut out);
-    show_list(whole, &out);
-    word(b"forward eccentricity of 0:");
-    show_eccentricity(forward_eccentricity(list, 5, asker, a, w, 0));
-    word(b"backward eccentricity of 4:");
-    show_eccentricity(backward_eccentricity(list, 5, asker, a, w, 4, &mut scratch));
-    word(b"diameter:");
-    show_answer(diameter(list, 5, asker, a, w, &mut scratch));
+    let from = ask.distances_from(0, &mut out);
+    show_list(rt, "distances from 0", from, &out)?;
+    let to = ask.distances_to(4, &mut out, &mut scratch);
+    show_list(rt, "distances to 4", to, &out)?;
+    let whole = ask.table(&mut out);
+    show_list(rt, "table", whole, &out)?;
+    let forward = ask.forward_eccentricity(0);
+    show_eccentricity(rt, "forward eccentricity of 0", forward)?;
+    let backward = ask.backward_eccentricity(4, &mut scratch);
+    show_eccentricity(rt, "backward eccentricity of 4", backward)?;
+    println!(rt; "diameter: {}", ask.diameter(&mut scratch))
 }
 
-pub fn cases() {
+pub fn cases(rt: &impl Print) -> io::Result<()> {
     let mut list = DAY_D;
-    word(b"day D, asker 0, 100 to 259200\n");
-    ask_all(&list, 0, 100, 259200);
-    word(b"day D, asker 0, 100 to 259201\n");
-    ask_all(&list, 0, 100, 259201);
-    pivots::cases(&list);
+    println!(rt; "day D, asker 0, 100 to 259200")?;
+    ask_all(rt, &list, 0, 100, 259200)?;
+    println!(rt; "day D, asker 0, 100 to 259201")?;
+    ask_all(rt, &list, 0, 100, 259201)?;
+    pivots::cases(rt, &list)?;
     list[18] = 0;
-    word(b"day D with travel 0 in the row of owner 9, asker 0\n");
-    ask_all(&list, 0, 100, 300);
-    word(b"the same, asker 9\n");
-    ask_all(&list, 9, 100, 300);
-    word(b"the same, asker 7\n");
-    ask_all(&list, 7, 100, 300);
+    println!(rt; "day D with travel 0 in the row of owner 9, asker 0")?;
+    ask_all(rt, &list, 0, 100, 300)?;
+    println!(rt; "the same, asker 9")?;
+    ask_all(rt, &list, 9, 100, 300)?;
+    println!(rt; "the same, asker 7")?;
+    ask_all(rt, &list, 7, 100, 300)
 }

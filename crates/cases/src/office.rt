@@ -1,93 +1,61 @@
 // The office check's cases.
 use crate::DAY_D;
-use figures::{Office, office_check};
+use figures::office_check;
+use std::io;
 
-fn show(name: &[u8], answer: Office) {
-    io::write_all(1, name);
-    match answer {
-        Office::Rows(rows) => {
-            io::write_all(1, b": rows ");
-            io::print_decimal(1, rows as u64);
-        }
-        Office::Refused { number, place } => {
-            io::write_all(1, b": refused ");
-            io::print_decimal(1, number as u64);
-            io::write_all(1, b" ");
-            io::print_decimal(1, place as u64);
-        }
+fn show(rt: &impl Print, name: &str, list: &[u32], n: u32) -> io::Result<()> {
+    match office_check(list, n) {
+        Ok(rows) => println!(rt; "office, {name}: rows {rows}"),
+        Err(refusal) => println!(rt; "office, {name}: {refusal}"),
     }
-    io::write_all(1, b"\n");
 }
 
 // Makes every whole row of zeros a row from 0 to 1 that travels a second.
 fn make_rows(list: &mut [u32]) {
-    let rows = list.len() / 5;
-    let mut i = 0;
-    while i < rows {
-        list[i * 5 + 1] = 1;
-        list[i * 5 + 3] = 1;
-        i += 1;
+    for row in list.chunks_exact_mut(5) {
+        row[1] = 1;
+        row[3] = 1;
     }
 }
 
-fn horizon() {
-    show(
-        b"office, start 259199 travel 1",
-        office_check(&[0, 1, 259199, 1, 0], 5),
-    );
-    show(
-        b"office, start 259199 travel 2",
-        office_check(&[0, 1, 259199, 2, 0], 5),
-    );
-    show(
-        b"office, start 4294967295 travel 4294967295",
-        office_check(&[0, 1, 4294967295, 4294967295, 0], 5),
-    );
+fn horizon(rt: &impl Print) -> io::Result<()> {
+    show(rt, "start 259199 travel 1", &[0, 1, 259199, 1, 0], 5)?;
+    show(rt, "start 259199 travel 2", &[0, 1, 259199, 2, 0], 5)?;
+    let last = u32::MAX;
+    show(rt, "start 4294967295 travel 4294967295", &[0, 1, last, last, 0], 5)
 }
 
-fn day_d() {
+fn day_d(rt: &impl Print) -> io::Result<()> {
     let mut list = DAY_D;
-    show(b"office, day D", office_check(&list, 5));
-    show(b"office, day D for 4 stops", office_check(&list, 4));
-    show(b"office, day D for 0 stops", office_check(&list, 0));
-    show(b"office, day D for 256 stops", office_check(&list, 256));
-    show(b"office, day D for 257 stops", office_check(&list, 257));
+    show(rt, "day D", &list, 5)?;
+    show(rt, "day D for 4 stops", &list, 4)?;
+    show(rt, "day D for 0 stops", &list, 0)?;
+    show(rt, "day D for 256 stops", &list, 256)?;
+    show(rt, "day D for 257 stops", &list, 257)?;
     list[18] = 0;
-    show(
-        b"office, day D with travel 0 in the row of owner 9",
-        office_check(&list, 5),
-    );
+    show(rt, "day D with travel 0 in the row of owner 9", &list, 5)?;
     list[4] = 256;
-    show(
-        b"office, the same with owner 256 in the first row",
-        office_check(&list, 5),
-    );
+    show(rt, "the same with owner 256 in the first row", &list, 5)?;
     list[3] = 0;
-    show(
-        b"office, the same with travel 0 in the first row too",
-        office_check(&list, 5),
-    );
+    show(rt, "the same with travel 0 in the first row too", &list, 5)
 }
 
-fn lengths() {
+fn lengths(rt: &impl Print) -> io::Result<()> {
     let mut full = [0u32; 10240];
     make_rows(&mut full);
-    show(b"office, 2048 rows", office_check(&full, 2));
+    show(rt, "2048 rows", &full, 2)?;
     let mut over = [0u32; 10245];
     make_rows(&mut over);
-    show(b"office, 2049 rows", office_check(&over, 2));
-    show(b"office, 2049 rows for 0 stops", office_check(&over, 0));
+    show(rt, "2049 rows", &over, 2)?;
+    show(rt, "2049 rows for 0 stops", &over, 0)?;
     let long = [0u32; 10246];
-    show(b"office, 10246 numbers for 0 stops", office_check(&long, 0));
-    show(
-        b"office, 4 numbers for 0 stops",
-        office_check(&[0, 0, 0, 0], 0),
-    );
-    show(b"office, no rows", office_check(&[], 1));
+    show(rt, "10246 numbers for 0 stops", &long, 0)?;
+    show(rt, "4 numbers for 0 stops", &[0, 0, 0, 0], 0)?;
+    show(rt, "no rows", &[], 1)
 }
 
-pub fn cases() {
-    horizon();
-    day_d();
-    lengths();
+pub fn cases(rt: &impl Print) -> io::Result<()> {
+    horizon(rt)?;
+    day_d(rt)?;
+    lengths(rt)
 }

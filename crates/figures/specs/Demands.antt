@@ -1,7 +1,7 @@
 -- The three demands, each stated once for any call and then of every call; the proofs at the end cite laws. The words are
 -- those of `rules` and of Promises. That the code of a call keeps its promise is its contract in `src/`: none has a
 -- `requires`, so a call takes any input and relies on no check made elsewhere.
-use Rattle.std.specs.Prelude.{ℕ, ◌*◌, ◌≡◌, refl, ◌≢◌, ◌↔◌, List, [], ◌∷◌, length}
+use Rattle.std.specs.Prelude.{ℕ, ◌*◌, ◌≡◌, refl, ◌≢◌, ◌↔◌, List, [], ◌∷◌, length, Some, None, Ok}
 use Rattle.std.proofs.Common.{subst}
 use Rattle.std.proofs.Math.Path.{Σ_path}
 use Rattle.clock.specs.declared.Length.{Length}
@@ -16,27 +16,21 @@ use Rattle.rules.specs.Lent.{Fills, scratch_places, Wiped}
 use Rattle.rules.specs.Figures.{DistanceOf, TableOf, Pairs, Bounds, JoinedPairs, PivotBounds}
 use Rattle.rules.specs.Struck.{Fit, struck, SameToAsker}
 use Rattle.rules.proofs.Laws.Single.{table_one_place}
-use Rattle.figures.specs.declared.answers.Filled.{Filled}
-use Rattle.figures.specs.declared.answers.Filled.TheVariants as filled
-use Rattle.figures.specs.declared.answers.Eccentricity.{Eccentricity}
-use Rattle.figures.specs.declared.answers.Eccentricity.TheVariants as eccentricity
 use Rattle.figures.specs.declared.answers.Answer.{Answer}
 use Rattle.figures.specs.declared.answers.Answer.TheVariants as answer
-use Rattle.figures.specs.declared.answers.Office.{Office}
-use Rattle.figures.specs.declared.answers.Office.TheVariants as office
-use Rattle.figures.specs.Promises.{ask, room, takes, DistancesFromPromise, DistancesToPromise, TablePromise, ForwardEccentricityPromise, BackwardEccentricityPromise, DiameterPromise, PivotDiameterPromise, OfficePromise}
+use Rattle.figures.specs.Promises.{Filled, Eccentricity, Office, IsRefusal, seconds, ask, room, takes, DistancesFromPromise, DistancesToPromise, TablePromise, ForwardEccentricityPromise, BackwardEccentricityPromise, DiameterPromise, PivotDiameterPromise, OfficePromise}
 use Rattle.figures.specs.Laws.Unique.{distances_from_unique, distances_to_unique, table_unique, forward_unique, backward_unique, diameter_unique, pivot_diameter_unique, office_unique}
 use Rattle.figures.specs.Laws.Exists.{distances_from_exists, distances_to_exists, table_exists, forward_exists, backward_exists, diameter_exists, pivot_diameter_exists, office_exists}
 use Rattle.figures.specs.Laws.Isolated.{distances_from_isolated, distances_to_isolated, table_isolated, forward_isolated, backward_isolated, diameter_isolated, pivot_diameter_isolated, distances_from_struck, distances_to_struck, table_struck, forward_struck, backward_struck, diameter_struck, pivot_diameter_struck}
-use Rattle.figures.specs.Laws.Outcome.{filled_refused, eccentricity_refused, search_refused, office_refused, filled_written, eccentricity_written, search_written, office_rows_lem}
+use Rattle.figures.specs.Laws.Outcome.{refused_kept, filled_refused, eccentricity_refused, search_refused, office_refused, filled_written, eccentricity_written, search_written, office_rows_lem}
 use Rattle.figures.specs.Laws.None.{forward_none, backward_none, diameter_none, pivot_diameter_none}
 
--- A call with its input: what its lent lists hold before, the checks that it makes, how its answer tells a refusal, and what
+-- A call with its input: what its lent lists hold before, the checks that it makes, which answers are a refusal, and what
 -- it promises of its answer and of what the lent lists hold afterwards.
 pub record Call (Reply Lists : Type 0) : Type 1 where
   pub before : Lists
   pub checks : List Check
-  pub refused : (number place : ℕ) → Reply
+  pub IsRefused : Reply → (number place : ℕ) → Type 0
   pub Promise : Reply → (after : Lists) → Type 0
 
 -- the calls, in README's order
@@ -45,7 +39,7 @@ distances_from q source out =
     record {
       before = out;
       checks = table q (takes (source ∷ []) [] (room out q.n ∷ []));
-      refused = filled.Refused;
+      IsRefused = IsRefusal;
       Promise = DistancesFromPromise q source out;
     }
 
@@ -54,7 +48,7 @@ distances_to q target out scratch =
     record {
       before = (out, scratch);
       checks = table q (takes (target ∷ []) [] (room out q.n ∷ room scratch scratch_places ∷ []));
-      refused = filled.Refused;
+      IsRefused = IsRefusal;
       Promise = λ r after. DistancesToPromise q target out scratch r after.0 after.1;
     }
 
@@ -63,7 +57,7 @@ whole_table q out =
     record {
       before = out;
       checks = table q (takes [] [] (room out (q.n * q.n) ∷ []));
-      refused = filled.Refused;
+      IsRefused = IsRefusal;
       Promise = TablePromise q out;
     }
 
@@ -72,7 +66,7 @@ forward_eccentricity q source =
     record {
       before = tt;
       checks = table q (takes (source ∷ []) [] []);
-      refused = eccentricity.Refused;
+      IsRefused = IsRefusal;
       Promise = λ r after. ForwardEccentricityPromise q source r;
     }
 
@@ -81,7 +75,7 @@ backward_eccentricity q target scratch =
     record {
       before = scratch;
       checks = table q (takes (target ∷ []) [] (room scratch scratch_places ∷ []));
-      refused = eccentricity.Refused;
+      IsRefused = IsRefusal;
       Promise = BackwardEccentricityPromise q target scratch;
     }
 
@@ -90,7 +84,7 @@ plain_diameter q scratch =
     record {
       before = scratch;
       checks = table q (takes [] [] (room scratch scratch_places ∷ []));
-      refused = answer.Refused;
+      IsRefused = λ r number place. r ≡ answer.Refused number place;
       Promise = DiameterPromise q scratch;
     }
 
@@ -99,7 +93,7 @@ pivot_diameter q pivots scratch =
     record {
       before = scratch;
       checks = table q (takes [] pivots (room scratch scratch_places ∷ []));
-      refused = answer.Refused;
+      IsRefused = λ r number place. r ≡ answer.Refused number place;
       Promise = PivotDiameterPromise q pivots scratch;
     }
 
@@ -108,7 +102,7 @@ office_check list n =
     record {
       before = tt;
       checks = office_table list n;
-      refused = office.Refused;
+      IsRefused = IsRefusal;
       Promise = λ r after. OfficePromise list n r;
     }
 
@@ -120,9 +114,9 @@ pub record Settles {Reply Lists : Type 0} (c : Call Reply Lists) : Type 0 where
   -- and one only
   pub one_outcome : (r r' : Reply) (after after' : Lists) → c.Promise r after → c.Promise r' after' → (r ≡ r') × (after ≡ after')
   -- it is a refusal exactly where the checks refuse, by the first that is given, with its number and place
-  pub refuses_exactly : (r : Reply) (after : Lists) → c.Promise r after → (number place : ℕ) → (r ≡ c.refused number place) ↔ Refuses c.checks number place
+  pub refuses_exactly : (r : Reply) (after : Lists) → c.Promise r after → (number place : ℕ) → c.IsRefused r number place ↔ Refuses c.checks number place
   -- and then every lent list is as before
-  pub refusal_writes_nothing : (number place : ℕ) (after : Lists) → c.Promise (c.refused number place) after → after ≡ c.before
+  pub refusal_writes_nothing : (r : Reply) (number place : ℕ) (after : Lists) → c.IsRefused r number place → c.Promise r after → after ≡ c.before
 
 pub record Demand1 : Type 0 where
   pub distances_from_lem : (q : Ask) (source : ℕ) (out : List ℕ) → Settles (distances_from q source out)
@@ -138,7 +132,7 @@ pub record Demand1 : Type 0 where
 -- the asker's own rows only, and visits are the number that it defines. An outcome that is no refusal tells the figure; every
 -- figure of an ask (`DistanceOf`, `TableOf`, `Pairs`, `Bounds`, `JoinedPairs`, `PivotBounds`) is over `asker's_day`.
 abbrev pub Tells : {Reply Lists : Type 0} → Call Reply Lists → (Figure : Reply → Lists → Type 0) → Type 0
-Tells {Reply} {Lists} c Figure = (r : Reply) (after : Lists) → c.Promise r after → ((number place : ℕ) → r ≢ c.refused number place) → Figure r after
+Tells {Reply} {Lists} c Figure = (r : Reply) (after : Lists) → c.Promise r after → ((number place : ℕ) → c.IsRefused r number place → ⊥) → Figure r after
 
 -- What there is to tell (`There` below) is a compatible route between different stops; under pivots, a pair that is joined.
 abbrev pub Routed : Ask → (u v : ℕ) → Type 0
@@ -146,8 +140,8 @@ Routed q u v = (u ≢ v) × Compatible (asker's_day q) q.A q.W u v
 
 -- an eccentricity: the greatest distance of the pairs that count, and none exactly if nothing is there
 pub record IsEccentricity (Pair : (v d : ℕ) → Type 0) (There : (v : ℕ) → Type 0) (r : Eccentricity) : Type 0 where
-  pub greatest : (value : Length) → r ≡ eccentricity.Value value → Greatest (λ d. (v : ℕ) × Pair v d) value.0
-  pub none : (r ≡ eccentricity.Nothing) ↔ ((v : ℕ) → There v → ⊥)
+  pub greatest : (value : Length) → r ≡ Ok (Some value) → Greatest (λ d. (v : ℕ) × Pair v d) value.0
+  pub none : (r ≡ Ok None) ↔ ((v : ℕ) → There v → ⊥)
 
 -- a diameter: the greatest distance over all pairs that count, whatever targets are skipped, with its pair and the visits; and
 -- none exactly if nothing is there, with the visits
@@ -169,7 +163,7 @@ pub record Demand2 : Type 0 where
   pub pivot_diameter_lem : (q : Ask) (pivots scratch : List ℕ)
       → Tells (pivot_diameter q pivots scratch)
       (λ r scratch'. IsDiameter (JoinedPairs q pivots) (PivotBounds q pivots) (Joined (asker's_day q) q.A q.W (pivots_of pivots)) r × Wiped scratch scratch')
-  pub office_check_lem : (list : List ℕ) (n : ℕ) → Tells (office_check list n) (λ r after. r ≡ office.Rows (length (rows_of list)))
+  pub office_check_lem : (list : List ℕ) (n : ℕ) → Tells (office_check list n) (λ r after. r ≡ Ok (length (rows_of list)))
 
 -- Demand 3: two day lists that agree on the public rows and on one client's rows give that client equal answers in
 -- everything, and it is the answer for the list with the others' rows struck out. Lists are of whole rows, at most 2,048 of
@@ -201,7 +195,7 @@ demand_1 =
             some_outcome = distances_from_exists q source out;
             one_outcome = distances_from_unique q source out;
             refuses_exactly = λ r after. filled_refused (table q (takes (source ∷ []) [] (room out q.n ∷ []))) (table_one_place q (takes (source ∷ []) [] (room out q.n ∷ []))) (Fills q.n (DistanceOf q source) out after) (after ≡ out) r;
-            refusal_writes_nothing = λ number place after h. h.1;
+            refusal_writes_nothing = λ r k p after. refused_kept (table q (takes (source ∷ []) [] (room out q.n ∷ []))) (λ x. Fills q.n (DistanceOf q source) out after) r k p;
           };
       distances_to_lem =
           λ q target out scratch.
@@ -211,7 +205,12 @@ demand_1 =
                 λ r r' after after' h g.
                 let e = distances_to_unique q target out scratch r r' after.0 after'.0 after.1 after'.1 h g in (e.0, Σ_path e.1.0 e.1.1);
             refuses_exactly = λ r after. filled_refused (table q (takes (target ∷ []) [] (room out q.n ∷ room scratch scratch_places ∷ []))) (table_one_place q (takes (target ∷ []) [] (room out q.n ∷ room scratch scratch_places ∷ []))) (Fills q.n (λ u. DistanceOf q u target) out after.0 × Wiped scratch after.1) ((after.0 ≡ out) × (after.1 ≡ scratch)) r;
-            refusal_writes_nothing = λ number place after h. Σ_path h.1.0 h.1.1;
+            refusal_writes_nothing =
+                λ r k p after e h.
+                let y =
+                refused_kept (table q (takes (target ∷ []) [] (room out q.n ∷ room scratch scratch_places ∷ [])))
+                (λ x. Fills q.n (λ u. DistanceOf q u target) out after.0 × Wiped scratch after.1) r k p e h in
+                Σ_path y.0 y.1;
           };
       whole_table_lem =
           λ q out.
@@ -219,7 +218,7 @@ demand_1 =
             some_outcome = table_exists q out;
             one_outcome = table_unique q out;
             refuses_exactly = λ r after. filled_refused (table q (takes [] [] (room out (q.n * q.n) ∷ []))) (table_one_place q (takes [] [] (room out (q.n * q.n) ∷ []))) (Fills (q.n * q.n) (TableOf q) out after) (after ≡ out) r;
-            refusal_writes_nothing = λ number place after h. h.1;
+            refusal_writes_nothing = λ r k p after. refused_kept (table q (takes [] [] (room out (q.n * q.n) ∷ []))) (λ x. Fills (q.n * q.n) (TableOf q) out after) r k p;
           };
       forward_eccentricity_lem =
           λ q source.
@@ -227,7 +226,7 @@ demand_1 =
             some_outcome = let e = forward_exists q source in (e.0, tt, e.1);
             one_outcome = λ r r' after after' h g. (forward_unique q source r r' h g, refl);
             refuses_exactly = λ r after. eccentricity_refused (table q (takes (source ∷ []) [] [])) (table_one_place q (takes (source ∷ []) [] [])) (Unit {0}) (Unit {0}) (Forward (Pairs q) source) r;
-            refusal_writes_nothing = λ number place after h. refl;
+            refusal_writes_nothing = λ r k p after e h. refl;
           };
       backward_eccentricity_lem =
           λ q target scratch.
@@ -235,7 +234,7 @@ demand_1 =
             some_outcome = backward_exists q target scratch;
             one_outcome = backward_unique q target scratch;
             refuses_exactly = λ r after. eccentricity_refused (table q (takes (target ∷ []) [] (room scratch scratch_places ∷ []))) (table_one_place q (takes (target ∷ []) [] (room scratch scratch_places ∷ []))) (Wiped scratch after) (after ≡ scratch) (Backward (Pairs q) target) r;
-            refusal_writes_nothing = λ number place after h. h.1;
+            refusal_writes_nothing = λ r k p after. refused_kept (table q (takes (target ∷ []) [] (room scratch scratch_places ∷ []))) (λ d. Backward (Pairs q) target (seconds d) × Wiped scratch after) r k p;
           };
       diameter =
           λ q scratch.
@@ -243,7 +242,7 @@ demand_1 =
             some_outcome = diameter_exists q scratch;
             one_outcome = diameter_unique q scratch;
             refuses_exactly = λ r after. search_refused (table q (takes [] [] (room scratch scratch_places ∷ []))) (table_one_place q (takes [] [] (room scratch scratch_places ∷ []))) (Wiped scratch after) (after ≡ scratch) (Pairs q) (Bounds q) r;
-            refusal_writes_nothing = λ number place after h. h.1;
+            refusal_writes_nothing = λ r k p after e h. (subst (λ (x : Answer). DiameterPromise q scratch x after) e h).1;
           };
       pivot_diameter_lem =
           λ q pivots scratch.
@@ -251,7 +250,7 @@ demand_1 =
             some_outcome = pivot_diameter_exists q pivots scratch;
             one_outcome = pivot_diameter_unique q pivots scratch;
             refuses_exactly = λ r after. search_refused (table q (takes [] pivots (room scratch scratch_places ∷ []))) (table_one_place q (takes [] pivots (room scratch scratch_places ∷ []))) (Wiped scratch after) (after ≡ scratch) (JoinedPairs q pivots) (PivotBounds q pivots) r;
-            refusal_writes_nothing = λ number place after h. h.1;
+            refusal_writes_nothing = λ r k p after e h. (subst (λ (x : Answer). PivotDiameterPromise q pivots scratch x after) e h).1;
           };
       office_check_lem =
           λ list n.
@@ -259,7 +258,7 @@ demand_1 =
             some_outcome = let e = office_exists list n in (e.0, tt, e.1);
             one_outcome = λ r r' after after' h g. (office_unique list n r r' h g, refl);
             refuses_exactly = λ r after. office_refused list n r;
-            refusal_writes_nothing = λ number place after h. refl;
+            refusal_writes_nothing = λ r k p after e h. refl;
           };
     }
 
@@ -273,13 +272,13 @@ demand_2 =
       forward_eccentricity_lem =
           λ q source r after h answered.
           record {
-            greatest = λ d e. (subst (λ (x : Eccentricity). ForwardEccentricityPromise q source x) e h).1;
+            greatest = λ d e. (subst (λ (x : Eccentricity). ForwardEccentricityPromise q source x) e h).1.0;
             none = forward_none q source r h answered;
           };
       backward_eccentricity_lem =
           λ q target scratch r scratch' h answered. (
             record {
-              greatest = λ d e. (subst (λ (x : Eccentricity). BackwardEccentricityPromise q target scratch x scratch') e h).1;
+              greatest = λ d e. (subst (λ (x : Eccentricity). BackwardEccentricityPromise q target scratch x scratch') e h).1.0;
               none = backward_none q target scratch r scratch' h answered;
             },
             eccentricity_written (table q (takes (target ∷ []) [] (room scratch scratch_places ∷ []))) (Wiped scratch scratch') (scratch' ≡ scratch) (Backward (Pairs q) target) r h answered,

@@ -1,4 +1,5 @@
 -- Laws of the promises.
+pub mod Named
 pub mod Unique
 pub mod Inner
 pub mod Exists

@@ -14,14 +14,29 @@ use Rattle.figures.specs.declared.answers.Answer.{Answer}
 use Rattle.figures.specs.declared.answers.Answer.TheVariants as answer
 use Rattle.figures.specs.declared.ask.Ask as declared
 
+-- what the calls answer, but for the diameters
+abbrev pub Filled : Type 0
+Filled = Result (Unit {0}) Refusal
+
+abbrev pub Eccentricity : Type 0
+Eccentricity = Result (Option Length) Refusal
+
+abbrev pub Office : Type 0
+Office = Result ℕ Refusal
+
+-- a result is the refusal with this number and this place
+abbrev pub IsRefusal : {T : Type 0} → Result T Refusal → (number place : ℕ) → Type 0
+IsRefusal (Ok x) number place = ⊥
+IsRefusal (Err r) number place = (number_of r ≡ number) × (place_of r ≡ place)
+
 -- By cases. An answer comes where no check is given, it is right, and the lent lists are written; a refusal is the first check
 -- that is given, and they are unchanged.
 abbrev pub Fulfils : {T : Type 0} → List Check → (Answered : T → Type 0) (Unchanged : Type 0) → Result T Refusal → Type 0
 Fulfils checks Answered Unchanged (Ok x) = Clear checks × Answered x
 Fulfils checks Answered Unchanged (Err r) = Refuses checks (number_of r) (place_of r) × Unchanged
 
--- a call that fills lists answers nothing else
-abbrev pub FulfilsFilling : List Check → (Written Unchanged : Type 0) → Result (Unit {0}) Refusal → Type 0
+-- a call that fills lists answers no more
+abbrev pub FulfilsFilling : List Check → (Written Unchanged : Type 0) → Filled → Type 0
 FulfilsFilling checks Written Unchanged = Fulfils checks (λ x. Written) Unchanged
 
 -- a length in seconds, or none
@@ -29,10 +44,10 @@ abbrev pub seconds : Option Length → rules.Option ℕ
 seconds (Some d) = rules.some d.0
 seconds None = rules.none
 
-abbrev pub FulfilsEccentricity : List Check → (Is : rules.Option ℕ → Type 0) (Written Unchanged : Type 0) → Result (Option Length) Refusal → Type 0
+abbrev pub FulfilsEccentricity : List Check → (Is : rules.Option ℕ → Type 0) (Written Unchanged : Type 0) → Eccentricity → Type 0
 FulfilsEccentricity checks Is Written Unchanged = Fulfils checks (λ d. Is (seconds d) × Written) Unchanged
 
-abbrev pub FulfilsOffice : List Check → (rows : ℕ) → Result ℕ Refusal → Type 0
+abbrev pub FulfilsOffice : List Check → (rows : ℕ) → Office → Type 0
 FulfilsOffice checks rows = Fulfils checks (λ k. k ≡ rows) (Unit {0})
 
 abbrev pub FulfilsSearch : List Check → (Pair : ℕ → ℕ → ℕ → Type 0) (Bound : ℕ → ℕ → Type 0) (Written Unchanged : Type 0) → Answer → Type 0
@@ -54,33 +69,33 @@ abbrev pub takes : (named pivots : List ℕ) → List Room → Takes
 takes named pivots rooms = record { named = named; pivots = pivots; rooms = rooms }
 
 -- the first n places become the distances from the source
-unfoldable pub DistancesFromPromise : Ask → (source : ℕ) (out : List ℕ) → Result (Unit {0}) Refusal → (out' : List ℕ) → Type 0
+unfoldable pub DistancesFromPromise : Ask → (source : ℕ) (out : List ℕ) → Filled → (out' : List ℕ) → Type 0
 DistancesFromPromise q source out r out' =
     FulfilsFilling (table q (takes (source ∷ []) [] (room out q.n ∷ [])))
     (Fills q.n (DistanceOf q source) out out')
     (out' ≡ out) r
 
 -- the first n places become the distances to the target, and scratch is set to 0
-unfoldable pub DistancesToPromise : Ask → (target : ℕ) (out scratch : List ℕ) → Result (Unit {0}) Refusal → (out' scratch' : List ℕ) → Type 0
+unfoldable pub DistancesToPromise : Ask → (target : ℕ) (out scratch : List ℕ) → Filled → (out' scratch' : List ℕ) → Type 0
 DistancesToPromise q target out scratch r out' scratch' =
     FulfilsFilling (table q (takes (target ∷ []) [] (room out q.n ∷ room scratch scratch_places ∷ [])))
     (Fills q.n (λ u. DistanceOf q u target) out out' × Wiped scratch scratch')
     ((out' ≡ out) × (scratch' ≡ scratch)) r
 
 -- the first n × n places become the table
-unfoldable pub TablePromise : Ask → (out : List ℕ) → Result (Unit {0}) Refusal → (out' : List ℕ) → Type 0
+unfoldable pub TablePromise : Ask → (out : List ℕ) → Filled → (out' : List ℕ) → Type 0
 TablePromise q out r out' =
     FulfilsFilling (table q (takes [] [] (room out (q.n * q.n) ∷ [])))
     (Fills (q.n * q.n) (TableOf q) out out')
     (out' ≡ out) r
 
 -- the greatest distance from the source to a different stop that is reached, or none
-unfoldable pub ForwardEccentricityPromise : Ask → (source : ℕ) → Result (Option Length) Refusal → Type 0
+unfoldable pub ForwardEccentricityPromise : Ask → (source : ℕ) → Eccentricity → Type 0
 ForwardEccentricityPromise q source r =
     FulfilsEccentricity (table q (takes (source ∷ []) [] [])) (Forward (Pairs q) source) (Unit {0}) (Unit {0}) r
 
 -- the same with distances to the target
-unfoldable pub BackwardEccentricityPromise : Ask → (target : ℕ) (scratch : List ℕ) → Result (Option Length) Refusal → (scratch' : List ℕ) → Type 0
+unfoldable pub BackwardEccentricityPromise : Ask → (target : ℕ) (scratch : List ℕ) → Eccentricity → (scratch' : List ℕ) → Type 0
 BackwardEccentricityPromise q target scratch r scratch' =
     FulfilsEccentricity (table q (takes (target ∷ []) [] (room scratch scratch_places ∷ []))) (Backward (Pairs q) target)
     (Wiped scratch scratch')
@@ -101,5 +116,5 @@ PivotDiameterPromise q pivots scratch r scratch' =
     (scratch' ≡ scratch) r
 
 -- the office check reads all rows, and where nothing is wrong it answers their number
-unfoldable pub OfficePromise : (list : List ℕ) (n : ℕ) → Result ℕ Refusal → Type 0
+unfoldable pub OfficePromise : (list : List ℕ) (n : ℕ) → Office → Type 0
 OfficePromise list n r = FulfilsOffice (office_table list n) (length (rows_of list)) r

@@ -5,6 +5,7 @@ ghost use Rattle.figures.specs.Answered.{eccentricity_of, answer_of, refused_by}
 use clock::Length;
 use day::Refusal;
 use search::{Far, Search};
+use std::fmt;
 
 // A diameter: a value with its pair and the visits, none with the visits, or a refusal with its number and place.
 #[derive(Clone, Copy, PartialEq, Eq)]
@@ -48,6 +49,22 @@ impl From<Refusal> for Answer {
         Answer::Refused {
             number: refusal.number(),
             place: refusal.place(),
+        }
+    }
+}
+
+// As the figures program writes it.
+impl fmt::Display for Answer {
+    fn fmt<W: fmt::Write>(&self, f: &mut fmt::Formatter<W>) -> fmt::Result {
+        match *self {
+            Answer::Value {
+                value,
+                from,
+                to,
+                visits,
+            } => write!(f, "{} {from} {to} {visits}", value.0),
+            Answer::Nothing { visits } => write!(f, "none {visits}"),
+            Answer::Refused { number, place } => write!(f, "refused {number} {place}"),
         }
     }
 }

@@ -2,8 +2,8 @@
 ghost use Rattle.figures.specs.Promises.{ask, DistancesToPromise, BackwardEccentricityPromise};
 ghost use Rattle.figures_c.specs.Reply.{filled_reply, eccentricity_reply, Replied};
 
-use crate::reply::{eccentricity_reply, filled_reply};
-use figures::{backward_eccentricity, distances_to};
+use crate::reply::Reply;
+use figures::Ask;
 
 #[unsafe(no_mangle)]
 pub extern "C" fn figures_distances_to(
@@ -19,7 +19,8 @@ pub extern "C" fn figures_distances_to(
 )
     ensures { Replied filled_reply (λ x. DistancesToPromise (ask list.now n asker a w) target out.old scratch.old x out.new scratch.new) reply.new }
 {
-    *reply = filled_reply(distances_to(list, n, asker, a, w, target, out, scratch));
+    let ask = Ask { list, n, asker, a, w };
+    *reply = ask.distances_to(target, out, scratch).reply();
 }
 
 #[unsafe(no_mangle)]
@@ -35,5 +36,6 @@ pub extern "C" fn figures_backward_eccentricity(
 )
     ensures { Replied eccentricity_reply (λ x. BackwardEccentricityPromise (ask list.now n asker a w) stop scratch.old x scratch.new) reply.new }
 {
-    *reply = eccentricity_reply(backward_eccentricity(list, n, asker, a, w, stop, scratch));
+    let ask = Ask { list, n, asker, a, w };
+    *reply = ask.backward_eccentricity(stop, scratch).reply();
 }

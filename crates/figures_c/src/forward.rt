@@ -2,8 +2,8 @@
 ghost use Rattle.figures.specs.Promises.{ask, DistancesFromPromise, TablePromise, ForwardEccentricityPromise};
 ghost use Rattle.figures_c.specs.Reply.{filled_reply, eccentricity_reply, Replied};
 
-use crate::reply::{eccentricity_reply, filled_reply};
-use figures::{distances_from, forward_eccentricity, table};
+use crate::reply::Reply;
+use figures::Ask;
 
 #[unsafe(no_mangle)]
 pub extern "C" fn figures_distances_from(
@@ -18,7 +18,8 @@ pub extern "C" fn figures_distances_from(
 )
     ensures { Replied filled_reply (λ x. DistancesFromPromise (ask list.now n asker a w) source out.old x out.new) reply.new }
 {
-    *reply = filled_reply(distances_from(list, n, asker, a, w, source, out));
+    let ask = Ask { list, n, asker, a, w };
+    *reply = ask.distances_from(source, out).reply();
 }
 
 #[unsafe(no_mangle)]
@@ -33,7 +34,8 @@ pub extern "C" fn figures_table(
 )
     ensures { Replied filled_reply (λ x. TablePromise (ask list.now n asker a w) out.old x out.new) reply.new }
 {
-    *reply = filled_reply(table(list, n, asker, a, w, out));
+    let ask = Ask { list, n, asker, a, w };
+    *reply = ask.table(out).reply();
 }
 
 #[unsafe(no_mangle)]
@@ -48,5 +50,6 @@ pub extern "C" fn figures_forward_eccentricity(
 )
     ensures { Replied eccentricity_reply (ForwardEccentricityPromise (ask list.now n asker a w) stop) reply.new }
 {
-    *reply = eccentricity_reply(forward_eccentricity(list, n, asker, a, w, stop));
+    let ask = Ask { list, n, asker, a, w };
+    *reply = ask.forward_eccentricity(stop).reply();
 }

@@ -2,12 +2,12 @@
 ghost use Rattle.figures.specs.Promises.{OfficePromise};
 ghost use Rattle.figures_c.specs.Reply.{office_reply, Replied};
 
-use crate::reply::office_reply;
+use crate::reply::Reply;
 use figures::office_check;
 
 #[unsafe(no_mangle)]
 pub extern "C" fn figures_office_check(list: &[u32], n: u32, reply: &mut [u32; 5])
     ensures { Replied office_reply (OfficePromise list.now n) reply.new }
 {
-    *reply = office_reply(office_check(list, n));
+    *reply = office_check(list, n).reply();
 }

@@ -1,8 +1,9 @@
 // Answers as replies: what came of the call, then its numbers, with 0 for what it has not.
-ghost use Rattle.std.specs.Prelude.{◌≡◌};
-ghost use Rattle.figures_c.specs.Reply.{filled_reply, eccentricity_reply, answer_reply, office_reply};
+ghost use Rattle.std.specs.Prelude.{◌≡◌, ℕ, List};
+ghost use Rattle.figures_c.specs.Reply.{done_reply, length_reply, rows_reply, answer_reply, result_reply};
 
-use figures::{Answer, Eccentricity, Filled, Office};
+use clock::Length;
+use figures::{Answer, Refusal};
 
 // What came of a call: the first number of its reply.
 const REFUSED: u32 = 0;
@@ -11,45 +12,66 @@ const ANSWER: u32 = 1;
 
 const NONE: u32 = 2;
 
-pub fn filled_reply(r: Filled) -> [u32; 5]
-    ensures { result ≡ filled_reply r }
-{
-    match r {
-        Filled::Done => [ANSWER, 0, 0, 0, 0],
-        Filled::Refused { number, place } => [REFUSED, number, place, 0, 0],
+// What a call answers has a reply.
+pub trait Reply {
+    ghost reply_of: { Self → List ℕ };
+
+    fn reply(self) -> [u32; 5]
+        ensures { result ≡ reply_of self };
+}
+
+impl Reply for () {
+    ghost reply_of = { done_reply };
+
+    fn reply(self) -> [u32; 5] {
+        [ANSWER, 0, 0, 0, 0]
     }
 }
 
-pub fn eccentricity_reply(r: Eccentricity) -> [u32; 5]
-    ensures { result ≡ eccentricity_reply r }
-{
-    match r {
-        Eccentricity::Value(value) => [ANSWER, value.0, 0, 0, 0],
-        Eccentricity::Nothing => [NONE, 0, 0, 0, 0],
-        Eccentricity::Refused { number, place } => [REFUSED, number, place, 0, 0],
+impl Reply for Option<Length> {
+    ghost reply_of = { length_reply };
+
+    fn reply(self) -> [u32; 5] {
+        match self {
+            Some(length) => [ANSWER, length.0, 0, 0, 0],
+            None => [NONE, 0, 0, 0, 0],
+        }
     }
 }
 
-pub fn answer_reply(r: Answer) -> [u32; 5]
-    ensures { result ≡ answer_reply r }
-{
-    match r {
-        Answer::Value {
-            value,
-            from,
-            to,
-            visits,
-        } => [ANSWER, value.0, from, to, visits],
-        Answer::Nothing { visits } => [NONE, 0, 0, 0, visits],
-        Answer::Refused { number, place } => [REFUSED, number, place, 0, 0],
+// The number of rows.
+impl Reply for u32 {
+    ghost reply_of = { rows_reply };
+
+    fn reply(self) -> [u32; 5] {
+        [ANSWER, self, 0, 0, 0]
     }
 }
 
-pub fn office_reply(r: Office) -> [u32; 5]
-    ensures { result ≡ office_reply r }
-{
-    match r {
-        Office::Rows(rows) => [ANSWER, rows, 0, 0, 0],
-        Office::Refused { number, place } => [REFUSED, number, place, 0, 0],
+impl Reply for Answer {
+    ghost reply_of = { answer_reply };
+
+    fn reply(self) -> [u32; 5] {
+        match self {
+            Answer::Value {
+                value,
+                from,
+                to,
+                visits,
+            } => [ANSWER, value.0, from, to, visits],
+            Answer::Nothing { visits } => [NONE, 0, 0, 0, visits],
+            Answer::Refused { number, place } => [REFUSED, number, place, 0, 0],
+        }
+    }
+}
+
+impl<T: Reply> Reply for Result<T, Refusal> {
+    ghost reply_of = { result_reply T.reply_of };
+
+    fn reply(self) -> [u32; 5] {
+        match self {
+            Ok(answer) => answer.reply(),
+            Err(refusal) => [REFUSED, refusal.number(), refusal.place(), 0, 0],
+        }
     }
 }

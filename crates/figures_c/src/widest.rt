@@ -2,8 +2,8 @@
 ghost use Rattle.figures.specs.Promises.{ask, DiameterPromise, PivotDiameterPromise};
 ghost use Rattle.figures_c.specs.Reply.{answer_reply, Replied};
 
-use crate::reply::answer_reply;
-use figures::{diameter, pivot_diameter};
+use crate::reply::Reply;
+use figures::Ask;
 
 #[unsafe(no_mangle)]
 pub extern "C" fn figures_diameter(
@@ -17,7 +17,8 @@ pub extern "C" fn figures_diameter(
 )
     ensures { Replied answer_reply (λ x. DiameterPromise (ask list.now n asker a w) scratch.old x scratch.new) reply.new }
 {
-    *reply = answer_reply(diameter(list, n, asker, a, w, scratch));
+    let ask = Ask { list, n, asker, a, w };
+    *reply = ask.diameter(scratch).reply();
 }
 
 #[unsafe(no_mangle)]
@@ -33,5 +34,6 @@ pub extern "C" fn figures_pivot_diameter(
 )
     ensures { Replied answer_reply (λ x. PivotDiameterPromise (ask list.now n asker a w) pivots.now scratch.old x scratch.new) reply.new }
 {
-    *reply = answer_reply(pivot_diameter(list, n, asker, a, w, pivots, scratch));
+    let ask = Ask { list, n, asker, a, w };
+    *reply = ask.pivot_diameter(pivots, scratch).reply();
 }

@@ -1,5 +1,5 @@
 -- The promises of functions that serve other modules of the crate leave one outcome too.
-use Rattle.std.specs.Prelude.{ℕ, ◌*◌, ◌≡◌, List, [], ◌∷◌, take}
+use Rattle.std.specs.Prelude.{ℕ, ◌*◌, ◌≡◌, List, [], ◌∷◌, take, Result, Ok, Err}
 use Rattle.std.proofs.Common.{ap, sym, ◌∙◌, subst, inl, inr}
 use Rattle.rules.specs.Day.{Row, Ask}
 use Rattle.rules.specs.Pivots.{pivots_of}
@@ -7,22 +7,23 @@ use Rattle.rules.specs.Table.{check_8, check_9, Refuses}
 use Rattle.rules.proofs.Laws.Checks.{refuses_first, refuses_then}
 use Rattle.rules.proofs.Laws.Single.{least_single, zero_place, clear_or_refused, OnePlace, refusal_single}
 use Rattle.rules.proofs.Laws.Written.{copied_single}
-use Rattle.day.specs.declared.faults.Verdict.{Verdict}
+use Rattle.day.specs.Refusals.{number_of, place_of}
+use Rattle.day.specs.declared.refusal.Refusal.{Refusal}
+use Rattle.day.specs.Laws.Single.{refusal_same}
 use Rattle.day.specs.Verdicts.{Judges}
 use Rattle.day.specs.Laws.Single.{judges_single}
 use Rattle.passes.specs.Links.{Links}
 use Rattle.passes.proofs.Laws.Single.{links_single}
-use Rattle.figures.specs.declared.ask.Prepared.{Prepared}
-use Rattle.figures.specs.declared.ask.Prepared.TheVariants as prepared
+use Rattle.figures.specs.Promises.{Filled}
 use Rattle.figures.specs.Parts.{list_checks, plain_checks, own_check, first_checks, Prepares, LegsLaid}
 
-pub list_check_unique : (list : List ℕ) (n : ℕ) (v v' : Verdict) → Judges (list_checks list n) v → Judges (list_checks list n) v' → v ≡ v'
+pub list_check_unique : (list : List ℕ) (n : ℕ) (v v' : Filled) → Judges (list_checks list n) v → Judges (list_checks list n) v' → v ≡ v'
 list_check_unique list n = judges_single (list_checks list n) (zero_place, (zero_place, (zero_place, tt)))
 
-pub plain_check_unique : (q : Ask) (v v' : Verdict) → Judges (plain_checks q) v → Judges (plain_checks q) v' → v ≡ v'
+pub plain_check_unique : (q : Ask) (v v' : Filled) → Judges (plain_checks q) v → Judges (plain_checks q) v' → v ≡ v'
 plain_check_unique q = judges_single (plain_checks q) (zero_place, (zero_place, (zero_place, (zero_place, (zero_place, tt)))))
 
-pub pivots_check_unique : (n A W : ℕ) (pivots : List ℕ) (v v' : Verdict) → Judges (check_8 pivots ∷ check_9 n A W (pivots_of pivots) ∷ []) v
+pub pivots_check_unique : (n A W : ℕ) (pivots : List ℕ) (v v' : Filled) → Judges (check_8 pivots ∷ check_9 n A W (pivots_of pivots) ∷ []) v
     → Judges (check_8 pivots ∷ check_9 n A W (pivots_of pivots) ∷ []) v' → v ≡ v'
 pivots_check_unique n A W pivots = judges_single (check_8 pivots ∷ check_9 n A W (pivots_of pivots) ∷ []) (zero_place, (λ i j h k. least_single h k, tt))
 
@@ -30,23 +31,23 @@ module _ (q : Ask) (old : List ℕ) where
   first_one_place : OnePlace (first_checks q)
   first_one_place = (zero_place, (zero_place, (zero_place, (zero_place, (zero_place, (λ i j h k. least_single h k, tt))))))
 
-  pub first_refused : (new : List ℕ) (k p : ℕ) → Prepares q old (prepared.Refused k p) new → Refuses (first_checks q) k p
-  first_refused new k p (inl h) = refuses_first (plain_checks q) (own_check q) k p h.0
-  first_refused new k p (inr h) = refuses_then (plain_checks q) (own_check q) k p h.0 h.1
+  pub first_refused : (new : List ℕ) (r : Refusal) → Prepares q old (Err r) new → Refuses (first_checks q) (number_of r) (place_of r)
+  first_refused new r (inl h) = refuses_first (plain_checks q) (own_check q) (number_of r) (place_of r) h.0
+  first_refused new r (inr h) = refuses_then (plain_checks q) (own_check q) (number_of r) (place_of r) h.0 h.1
 
-  room_single : (new new' : List ℕ) (k p k' p' : ℕ) → Prepares q old (prepared.Refused k p) new → Prepares q old (prepared.Refused k' p') new' → new ≡ new'
-  room_single new new' k p k' p' (inl h) (inl g) = h.1 ∙ sym g.1
-  room_single new new' k p k' p' (inl h) (inr g) = absurd (clear_or_refused (plain_checks q) k p g.0 h.0)
-  room_single new new' k p k' p' (inr h) (inl g) = absurd (clear_or_refused (plain_checks q) k' p' h.0 g.0)
-  room_single new new' k p k' p' (inr h) (inr g) = (copied_single h.2.1 g.2.1).1
+  room_single : (new new' : List ℕ) (r s : Refusal) → Prepares q old (Err r) new → Prepares q old (Err s) new' → new ≡ new'
+  room_single new new' r s (inl h) (inl g) = h.1 ∙ sym g.1
+  room_single new new' r s (inl h) (inr g) = absurd (clear_or_refused (plain_checks q) (number_of r) (place_of r) g.0 h.0)
+  room_single new new' r s (inr h) (inl g) = absurd (clear_or_refused (plain_checks q) (number_of s) (place_of s) h.0 g.0)
+  room_single new new' r s (inr h) (inr g) = (copied_single h.2.1 g.2.1).1
 
-  pub prepares_unique : (r r' : Prepared) (new new' : List ℕ) → Prepares q old r new → Prepares q old r' new' → (r ≡ r') × (new ≡ new')
-  prepares_unique (prepared.Rows k) (prepared.Rows k') new new' h g = let e = copied_single h.1 g.1 in (ap prepared.Rows e.0, e.1)
-  prepares_unique (prepared.Rows i) (prepared.Refused k p) new new' h g = absurd (clear_or_refused (first_checks q) k p h.0 (first_refused new' k p g))
-  prepares_unique (prepared.Refused k p) (prepared.Rows i) new new' h g = absurd (clear_or_refused (first_checks q) k p g.0 (first_refused new k p h))
-  prepares_unique (prepared.Refused k p) (prepared.Refused k' p') new new' h g =
-      let e = refusal_single (first_checks q) first_one_place k p k' p' (first_refused new k p h) (first_refused new' k' p' g) in
-      (cc (e.0, e.1), room_single new new' k p k' p' h g)
+  pub prepares_unique : (r r' : Result ℕ Refusal) (new new' : List ℕ) → Prepares q old r new → Prepares q old r' new' → (r ≡ r') × (new ≡ new')
+  prepares_unique (Ok k) (Ok k') new new' h g = let e = copied_single h.1 g.1 in (ap Ok e.0, e.1)
+  prepares_unique (Ok i) (Err r) new new' h g = absurd (clear_or_refused (first_checks q) (number_of r) (place_of r) h.0 (first_refused new' r g))
+  prepares_unique (Err r) (Ok i) new new' h g = absurd (clear_or_refused (first_checks q) (number_of r) (place_of r) g.0 (first_refused new r h))
+  prepares_unique (Err r) (Err s) new new' h g =
+      let e = refusal_single (first_checks q) first_one_place (number_of r) (place_of r) (number_of s) (place_of s) (first_refused new r h) (first_refused new' s g) in
+      (ap Err (refusal_same r s e.0 e.1), room_single new new' r s h g)
 
 pub legs_laid_unique : (A W : ℕ) (rs : List Row) (legs next follow : List ℕ) (end end' : ℕ) (l l' h h' n n' f f' : List ℕ)
     → LegsLaid A W rs legs next follow end l h n f → LegsLaid A W rs legs next follow end' l' h' n' f'

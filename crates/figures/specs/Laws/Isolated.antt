@@ -1,8 +1,8 @@
 -- A foreign row changes nothing: two fit lists with the same rows of the asker have the same outcomes.
-use Rattle.std.specs.Prelude.{ℕ, ◌*◌, ◌≡◌, ◌↔◌}
+use Rattle.std.specs.Prelude.{ℕ, ◌*◌, ◌≡◌, ◌↔◌, Result, Ok, Err}
 use Rattle.std.proofs.Common.{subst}
 use mathlib.Core.List.{List, [], ◌∷◌}
-use Rattle.std.proofs.Math.Option.{Option, none, some}
+use Rattle.std.proofs.Math.Option.{Option}
 use Rattle.rules.specs.Day.{Row, rows_of, own, Ask}
 use Rattle.rules.specs.Routes.{Earliest}
 use Rattle.rules.specs.Eccentricity.{Reached, Forward, Backward}
@@ -13,17 +13,15 @@ use Rattle.rules.specs.Lent.{Fills, scratch_places, Wiped, Stands}
 use Rattle.rules.specs.Struck.{Fit, struck, SameToAsker}
 use Rattle.rules.proofs.Laws.Isolated.{clear_carries, refusal_carries, same_back, same_to_struck}
 use Rattle.passes.specs.Days.{rows_day}
-use Rattle.figures.specs.declared.answers.Filled.{Filled}
-use Rattle.figures.specs.declared.answers.Filled.TheVariants as filled
-use Rattle.figures.specs.declared.answers.Eccentricity.{Eccentricity}
-use Rattle.figures.specs.declared.answers.Eccentricity.TheVariants as eccentricity
+use Rattle.day.specs.Refusals.{number_of, place_of}
+use Rattle.day.specs.declared.refusal.Refusal.{Refusal}
 use Rattle.figures.specs.declared.answers.Answer.{Answer}
 use Rattle.figures.specs.declared.answers.Answer.TheVariants as answer
 use Rattle.figures.specs.Parts.{Stretched}
-use Rattle.figures.specs.Promises.{ask, room, takes, Fulfils, FulfilsEccentricity, FulfilsSearch, DistancesFromPromise, DistancesToPromise, TablePromise, ForwardEccentricityPromise, BackwardEccentricityPromise, DiameterPromise, PivotDiameterPromise}
+use Rattle.figures.specs.Promises.{ask, room, takes, Filled, Eccentricity, seconds, Fulfils, FulfilsFilling, FulfilsEccentricity, FulfilsSearch, DistancesFromPromise, DistancesToPromise, TablePromise, ForwardEccentricityPromise, BackwardEccentricityPromise, DiameterPromise, PivotDiameterPromise}
 use Rattle.figures.specs.Laws.Unique.{distances_from_unique, distances_to_unique, table_unique, forward_unique, backward_unique, diameter_unique, pivot_diameter_unique}
 
--- For each enum, over any figures of rows (`Is`, `X`) and any lists left alone (`Y`): an outcome for one list is an
+-- Over any figures of rows (`B`, `X`, `Is`) and any lists left alone (`Y`): an outcome for one list is an
 -- outcome for the other.
 module _ {asker : ℕ} {list other : List ℕ} (s : SameToAsker asker list other) (n A W : ℕ) where
   abbrev one : Ask
@@ -38,16 +36,18 @@ module _ {asker : ℕ} {list other : List ℕ} (s : SameToAsker asker list other
   carries : (X : List Row → Type 0) → X (rows list) → X (rows other)
   carries X = subst X s.same_rows
 
-  fulfils_carries : (t : Takes) (X : List Row → Type 0) (Y : Type 0) (r : Filled)
-      → Fulfils (table one t) (X (rows list)) Y r → Fulfils (table two t) (X (rows other)) Y r
-  fulfils_carries t X Y filled.Done h = (clear_carries s n A W t h.0, carries X h.1)
-  fulfils_carries t X Y (filled.Refused k p) h = (refusal_carries s n A W t k p h.0, h.1)
+  fulfils_carries : {T : Type 0} (t : Takes) (B : List Row → T → Type 0) (Y : Type 0) (r : Result T Refusal)
+      → Fulfils (table one t) (B (rows list)) Y r → Fulfils (table two t) (B (rows other)) Y r
+  fulfils_carries t B Y (Ok x) h = (clear_carries s n A W t h.0, carries (λ rs. B rs x) h.1)
+  fulfils_carries t B Y (Err r) h = (refusal_carries s n A W t (number_of r) (place_of r) h.0, h.1)
+
+  filling_carries : (t : Takes) (X : List Row → Type 0) (Y : Type 0) (r : Filled)
+      → FulfilsFilling (table one t) (X (rows list)) Y r → FulfilsFilling (table two t) (X (rows other)) Y r
+  filling_carries t X = fulfils_carries t (λ rs x. X rs)
 
   eccentricity_carries : (t : Takes) (Is : List Row → Option ℕ → Type 0) (X Y : Type 0) (r : Eccentricity)
       → FulfilsEccentricity (table one t) (Is (rows list)) X Y r → FulfilsEccentricity (table two t) (Is (rows other)) X Y r
-  eccentricity_carries t Is X Y (eccentricity.Value d) h = (clear_carries s n A W t h.0, carries (λ rs. Is rs (some d.0)) h.1, h.2)
-  eccentricity_carries t Is X Y eccentricity.Nothing h = (clear_carries s n A W t h.0, carries (λ rs. Is rs none) h.1, h.2)
-  eccentricity_carries t Is X Y (eccentricity.Refused k p) h = (refusal_carries s n A W t k p h.0, h.1)
+  eccentricity_carries t Is X = fulfils_carries t (λ rs d. Is rs (seconds d) × X)
 
   search_carries : (t : Takes) (Pair : List Row → ℕ → ℕ → ℕ → Type 0) (Bound : List Row → ℕ → ℕ → Type 0) (X Y : Type 0) (r : Answer)
       → FulfilsSearch (table one t) (Pair (rows list)) (Bound (rows list)) X Y r → FulfilsSearch (table two t) (Pair (rows other)) (Bound (rows other)) X Y r
@@ -57,11 +57,11 @@ module _ {asker : ℕ} {list other : List ℕ} (s : SameToAsker asker list other
 
   pub distances_from_carries : (source : ℕ) (out : List ℕ) (r : Filled) (o : List ℕ) → DistancesFromPromise one source out r o → DistancesFromPromise two source out r o
   unfolding DistancesFromPromise
-  distances_from_carries source out r o = fulfils_carries (takes (source ∷ []) [] (room out n ∷ [])) (λ rs. Fills n (Stands (rows_day rs) A W source) out o) (o ≡ out) r
+  distances_from_carries source out r o = filling_carries (takes (source ∷ []) [] (room out n ∷ [])) (λ rs. Fills n (Stands (rows_day rs) A W source) out o) (o ≡ out) r
 
   pub table_carries : (out : List ℕ) (r : Filled) (o : List ℕ) → TablePromise one out r o → TablePromise two out r o
   unfolding TablePromise
-  table_carries out r o = fulfils_carries (takes [] [] (room out (n * n) ∷ [])) (λ rs. Fills (n * n) (Stretched rs n A W) out o) (o ≡ out) r
+  table_carries out r o = filling_carries (takes [] [] (room out (n * n) ∷ [])) (λ rs. Fills (n * n) (Stretched rs n A W) out o) (o ≡ out) r
 
   pub forward_carries : (source : ℕ) (r : Eccentricity) → ForwardEccentricityPromise one source r → ForwardEccentricityPromise two source r
   unfolding ForwardEccentricityPromise
@@ -70,7 +70,7 @@ module _ {asker : ℕ} {list other : List ℕ} (s : SameToAsker asker list other
   pub distances_to_carries : (target : ℕ) (out scratch : List ℕ) (r : Filled) (o x : List ℕ) → DistancesToPromise one target out scratch r o x → DistancesToPromise two target out scratch r o x
   unfolding DistancesToPromise
   distances_to_carries target out scratch r o x =
-      fulfils_carries (takes (target ∷ []) [] (room out n ∷ room scratch scratch_places ∷ [])) (λ rs. Fills n (λ u. Stands (rows_day rs) A W u target) out o × Wiped scratch x)
+      filling_carries (takes (target ∷ []) [] (room out n ∷ room scratch scratch_places ∷ [])) (λ rs. Fills n (λ u. Stands (rows_day rs) A W u target) out o × Wiped scratch x)
       ((o ≡ out) × (x ≡ scratch)) r
 
   pub backward_carries : (target : ℕ) (scratch : List ℕ) (r : Eccentricity) (x : List ℕ) → BackwardEccentricityPromise one target scratch r x → BackwardEccentricityPromise two target scratch r x

@@ -1,32 +1,38 @@
 -- A reply tells its answer: two answers with one reply are equal.
-use Rattle.std.specs.Prelude.{ℕ, ◌≡◌, refl}
-use Rattle.std.proofs.Common.{ap}
-use Rattle.figures.specs.declared.answers.Filled.{Filled}
-use Rattle.figures.specs.declared.answers.Filled.TheVariants as filled
-use Rattle.figures.specs.declared.answers.Eccentricity.{Eccentricity}
-use Rattle.figures.specs.declared.answers.Eccentricity.TheVariants as eccentricity
+use Rattle.std.specs.Prelude.{ℕ, ◌≡◌, refl, List, Option, Some, None, Result, Ok, Err}
+use Rattle.std.proofs.Common.{ap, sym}
+use Rattle.clock.specs.declared.Length.{Length}
+use Rattle.day.specs.Refusals.{number_of, place_of}
+use Rattle.day.specs.declared.refusal.Refusal.{Refusal}
+use Rattle.day.specs.Laws.Single.{refusal_same}
+use Rattle.figures.specs.Promises.{Filled, Eccentricity, Office}
 use Rattle.figures.specs.declared.answers.Answer.{Answer}
 use Rattle.figures.specs.declared.answers.Answer.TheVariants as answer
-use Rattle.figures.specs.declared.answers.Office.{Office}
-use Rattle.figures.specs.declared.answers.Office.TheVariants as office
-use Rattle.figures_c.specs.Reply.{filled_reply, eccentricity_reply, answer_reply, office_reply}
+use Rattle.figures_c.specs.Reply.{refused_reply, done_reply, length_reply, rows_reply, answer_reply, result_reply, filled_reply, eccentricity_reply, office_reply}
+
+-- where no answer has the reply of a refusal, and two with one reply are equal
+result_told : {T : Type 0} (reply_of : T → List ℕ) → ((x : T) (k p : ℕ) → reply_of x ≡ refused_reply k p → ⊥) → ((x y : T) → reply_of x ≡ reply_of y → x ≡ y)
+    → (r r' : Result T Refusal) → result_reply reply_of r ≡ result_reply reply_of r' → r ≡ r'
+result_told reply_of apart same (Ok x) (Ok y) e = ap Ok (same x y e)
+result_told reply_of apart same (Ok x) (Err r) e = absurd (apart x (number_of r) (place_of r) e)
+result_told reply_of apart same (Err r) (Ok x) e = absurd (apart x (number_of r) (place_of r) (sym e))
+result_told reply_of apart same (Err r) (Err s) e = ap Err (refusal_same r s (cc e) (cc e))
 
 pub filled_told : (r r' : Filled) → filled_reply r ≡ filled_reply r' → r ≡ r'
-filled_told filled.Done filled.Done e = refl
-filled_told filled.Done (filled.Refused k p) e = cc e
-filled_told (filled.Refused k p) filled.Done e = cc e
-filled_told (filled.Refused k p) (filled.Refused k' p') e = cc e
+filled_told = result_told done_reply (λ x k p e. cc e) (λ x y e. refl)
+
+length_apart : (d : Option Length) (k p : ℕ) → length_reply d ≡ refused_reply k p → ⊥
+length_apart (Some d) k p e = cc e
+length_apart None k p e = cc e
+
+length_told : (d d' : Option Length) → length_reply d ≡ length_reply d' → d ≡ d'
+length_told (Some d) (Some d') e = let x : d.0 ≡ d'.0 = cc e in ap (λ (s : ℕ). Some (record { 0 = s })) x
+length_told (Some d) None e = cc e
+length_told None (Some d) e = cc e
+length_told None None e = refl
 
 pub eccentricity_told : (r r' : Eccentricity) → eccentricity_reply r ≡ eccentricity_reply r' → r ≡ r'
-eccentricity_told (eccentricity.Value d) (eccentricity.Value d') e = let x : d.0 ≡ d'.0 = cc e in ap (λ (s : ℕ). eccentricity.Value (record { 0 = s })) x
-eccentricity_told (eccentricity.Value d) eccentricity.Nothing e = cc e
-eccentricity_told (eccentricity.Value d) (eccentricity.Refused k p) e = cc e
-eccentricity_told eccentricity.Nothing (eccentricity.Value d) e = cc e
-eccentricity_told eccentricity.Nothing eccentricity.Nothing e = refl
-eccentricity_told eccentricity.Nothing (eccentricity.Refused k p) e = cc e
-eccentricity_told (eccentricity.Refused k p) (eccentricity.Value d) e = cc e
-eccentricity_told (eccentricity.Refused k p) eccentricity.Nothing e = cc e
-eccentricity_told (eccentricity.Refused k p) (eccentricity.Refused k' p') e = cc e
+eccentricity_told = result_told length_reply length_apart length_told
 
 pub answer_told : (r r' : Answer) → answer_reply r ≡ answer_reply r' → r ≡ r'
 answer_told (answer.Value d u v k) (answer.Value d' u' v' k') e =
@@ -42,7 +48,4 @@ answer_told (answer.Refused k p) (answer.Nothing i) e = cc e
 answer_told (answer.Refused k p) (answer.Refused k' p') e = cc e
 
 pub office_told : (r r' : Office) → office_reply r ≡ office_reply r' → r ≡ r'
-office_told (office.Rows k) (office.Rows k') e = cc e
-office_told (office.Rows i) (office.Refused k p) e = cc e
-office_told (office.Refused k p) (office.Rows i) e = cc e
-office_told (office.Refused k p) (office.Refused k' p') e = cc e
+office_told = result_told rows_reply (λ k i p e. cc e) (λ k k' e. cc e)

@@ -4,4 +4,4 @@ use Rattle.figures_c.proofs.forward.figures_distances_from.Goals as goal
 
 pub returns : goal.returns
 unfolding Replied
-returns c = (c.distances_from.result, c.distances_from.ensures, c.filled_reply.ensures)
+returns c = (c.distances_from.result, c.distances_from.ensures, c.reply.ensures)

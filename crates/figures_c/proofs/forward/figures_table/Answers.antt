@@ -4,4 +4,4 @@ use Rattle.figures_c.proofs.forward.figures_table.Goals as goal
 
 pub returns : goal.returns
 unfolding Replied
-returns c = (c.table.result, c.table.ensures, c.filled_reply.ensures)
+returns c = (c.table.result, c.table.ensures, c.reply.ensures)

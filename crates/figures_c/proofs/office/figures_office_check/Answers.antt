@@ -4,4 +4,4 @@ use Rattle.figures_c.proofs.office.figures_office_check.Goals as goal
 
 pub returns : goal.returns
 unfolding Replied
-returns c = (c.office_check.result, c.office_check.ensures, c.office_reply.ensures)
+returns c = (c.office_check.result, c.office_check.ensures, c.reply.ensures)

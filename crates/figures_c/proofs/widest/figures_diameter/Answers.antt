@@ -4,4 +4,4 @@ use Rattle.figures_c.proofs.widest.figures_diameter.Goals as goal
 
 pub returns : goal.returns
 unfolding Replied
-returns c = (c.diameter.result, c.diameter.ensures, c.answer_reply.ensures)
+returns c = (c.diameter.result, c.diameter.ensures, c.reply.ensures)

@@ -4,4 +4,4 @@ use Rattle.figures_c.proofs.widest.figures_pivot_diameter.Goals as goal
 
 pub returns : goal.returns
 unfolding Replied
-returns c = (c.pivot_diameter.result, c.pivot_diameter.ensures, c.answer_reply.ensures)
+returns c = (c.pivot_diameter.result, c.pivot_diameter.ensures, c.reply.ensures)
