@@ -5,23 +5,19 @@ ghost use Rattle.passes.specs.Legs.{legs_in};
 ghost use Rattle.passes.specs.Links.{link_places, Orderly, Threaded, Linked};
 ghost use Rattle.passes.specs.Backward.{Sweeps, distances_to};
 
-use crate::forward::{UNREACHED, least};
-use crate::legs::{LEG_WIDTH, Leg, leg_at};
+use crate::forward::UNREACHED;
+use crate::legs::{Leg, leg_no};
 
 // The arrival at the target by a leg, if x is the earliest by what may follow it.
 fn arrival_by(leg: Leg, target: u32, x: u32) -> u32
     ensures { result ≡ cond (eqb leg.to target) leg.arrive.0 x }
 {
-    if leg.to == target {
-        let arrive = leg.arrive;
-        return arrive.0;
-    }
-    x
+    if leg.to == target { leg.arrive.0 } else { x }
 }
 
 // For each leg the earliest arrival at the target by it or a later leg of its from-stop; a place past the legs is kept.
 fn sweep(
-    legs: &[u32],
+    legs: &[Leg],
     next: &[u32; 2049],
     follow: &[u32; 2049],
     target: u32,
@@ -33,14 +29,11 @@ fn sweep(
     ensures { Sweeps legs.now target best.old best.new }
 {
     best[0] = UNREACHED;
-    let mut k = legs.len() / LEG_WIDTH;
-    while k > 0 {
-        let leg = leg_at(legs, k - 1);
+    for k in (1..=legs.len()).rev() {
         let later = best[follow[k] as usize];
-        let own = arrival_by(leg, target, later);
+        let own = arrival_by(leg_no(legs, k), target, later);
         let beside = best[next[k] as usize];
-        best[k] = least(own, beside);
-        k -= 1;
+        best[k] = own.min(beside);
     }
 }
 
@@ -48,15 +41,12 @@ fn sweep(
 fn distance_to(u: u32, target: u32, x: u32) -> u32
     ensures { result ≡ cond (eqb u target) 0 x }
 {
-    if u == target {
-        return 0;
-    }
-    x
+    if u == target { 0 } else { x }
 }
 
 // The distances to the target from the first n stops.
 pub fn to_target(
-    legs: &[u32],
+    legs: &[Leg],
     head: &[u32; 256],
     next: &[u32; 2049],
     follow: &[u32; 2049],
@@ -72,10 +62,8 @@ pub fn to_target(
 {
     let mut best = [0u32; 2049];
     sweep(legs, next, follow, target, &mut best);
-    let mut u: usize = 0;
-    while u < n {
+    for u in 0..n {
         let x = best[head[u] as usize];
         out[u] = distance_to(u as u32, target, x);
-        u += 1;
     }
 }

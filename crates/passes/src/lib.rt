@@ -2,8 +2,8 @@
 #![tactic(auto)]
 
 mod backward;
+mod begin;
 mod forward;
-mod front;
 mod legs;
 mod links;
 mod reach;
@@ -11,8 +11,7 @@ mod table;
 
 pub use backward::to_target;
 pub use forward::{UNREACHED, forward_pass};
-pub use front::fill;
-pub use legs::{LEG_WIDTH, make_legs};
+pub use legs::{Leg, make_legs};
 pub use links::link;
 pub use reach::reach_back;
 pub use table::fill_table;

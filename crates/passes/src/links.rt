@@ -1,35 +1,34 @@
 // Links between legs, for scans from the last leg to the first. Number k stands for leg k - 1, and 0 for none.
 ghost use Rattle.std.specs.Prelude.{◌≡◌, ◌-◌, ◌≤◌, length};
 ghost use Rattle.rules.specs.Day.{most_rows};
-ghost use Rattle.passes.specs.Links.{link_places, leg_count, Orderly, Links, onward, Chained, Farther, Twice, AllMost};
+ghost use Rattle.passes.specs.Links.{link_places, Orderly, Links, onward, Chained, Farther, Twice, AllMost};
 
-use crate::legs::{LEG_WIDTH, leg_at};
+use crate::legs::{Leg, leg_no};
+use clock::Length;
 
 // Where a search for a start at t or later goes next: a jump may only land on a leg that starts too early.
-fn farther(legs: &[u32], near: u32, far: u32, t: u32) -> u32
-    requires { far ≤ leg_count legs.now }
-    ensures { Farther legs.now near far t result }
+fn farther(legs: &[Leg], near: u32, far: u32, t: Length) -> u32
+    requires { far ≤ length legs.now }
+    ensures { Farther legs.now near far t.0 result }
 {
     if far == 0 {
         return near;
     }
-    let leg = leg_at(legs, far as usize - 1);
-    let start = leg.start;
-    if start.0 < t { far } else { near }
+    let leg = leg_no(legs, far as usize);
+    if leg.start < t { far } else { near }
 }
 
 // The first leg of a chain, from its leg k on, that starts at t or later.
-fn first_from(legs: &[u32], next: &[u32; 2049], jump: &[u32; 2049], k: u32, t: u32) -> u32
+fn first_from(legs: &[Leg], next: &[u32; 2049], jump: &[u32; 2049], k: u32, t: Length) -> u32
     requires orderly { Orderly legs.now }
-    requires k_bound { k ≤ leg_count legs.now }
+    requires k_bound { k ≤ length legs.now }
     requires chained { 1 ≤ k → Chained legs.now (k - 1) next.now jump.now }
-    ensures { result ≡ onward legs.now k t }
+    ensures { result ≡ onward legs.now k t.0 }
 {
     let mut j = k;
     while j > 0 {
-        let leg = leg_at(legs, j as usize - 1);
-        let start = leg.start;
-        if t <= start.0 {
+        let leg = leg_no(legs, j as usize);
+        if t <= leg.start {
             return j;
         }
         let near = next[j as usize];
@@ -62,7 +61,7 @@ fn jump_of(jump: &[u32; 2049], depth: &[u32; 2049], p: u32) -> u32
 }
 
 // Fills in the links of all legs; a place that belongs to no leg is kept.
-pub fn link(legs: &[u32], head: &mut [u32; 256], next: &mut [u32; 2049], follow: &mut [u32; 2049])
+pub fn link(legs: &[Leg], head: &mut [u32; 256], next: &mut [u32; 2049], follow: &mut [u32; 2049])
     requires orderly { Orderly legs.now }
     requires next_len { length next.old ≡ link_places }
     requires follow_len { length follow.old ≡ link_places }
@@ -71,18 +70,15 @@ pub fn link(legs: &[u32], head: &mut [u32; 256], next: &mut [u32; 2049], follow:
     *head = [0u32; 256];
     let mut jump = [0u32; 2049];
     let mut depth = [0u32; 2049];
-    let mut k = legs.len() / LEG_WIDTH;
-    while k > 0 {
-        let leg = leg_at(legs, k - 1);
+    for k in (1..=legs.len()).rev() {
+        let leg = leg_no(legs, k);
         let from = leg.from as usize;
         let to = leg.to as usize;
-        let arrive = leg.arrive;
-        follow[k] = first_from(legs, next, &jump, head[to], arrive.0);
+        follow[k] = first_from(legs, next, &jump, head[to], leg.arrive);
         let after = head[from];
         next[k] = after;
         jump[k] = jump_of(&jump, &depth, after);
         depth[k] = depth[after as usize] + 1;
         head[from] = k as u32;
-        k -= 1;
     }
 }

@@ -8,7 +8,4 @@ use Rattle.passes.proofs.Filling.{Filled}
 use Rattle.passes.proofs.backward.to_target.Given as goal
 
 abbrev pub invariant-loop-u : goal.invariant-loop-u
-invariant-loop-u l = (l.u ≤ l.n) × ((length l.out ≡ length l.initial.out) × Filled (distances_to l.target (legs_in l.legs) l.n 0) l.initial.out l.u l.out)
-
-abbrev pub decreases-loop-u : goal.decreases-loop-u
-decreases-loop-u l = l.n - l.u
+invariant-loop-u l = Filled (distances_to l.target (legs_in l.legs) l.n 0) l.initial.out l.u l.out
