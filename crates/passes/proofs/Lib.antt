@@ -1,4 +1,5 @@
 pub mod Passing
+pub mod Timing
 pub mod Linking
 pub mod Sweeping
 pub mod Filling

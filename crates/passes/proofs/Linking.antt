@@ -1,5 +1,5 @@
 -- Legs linked one after another, from the last to the first.
-use Prim.Native.Nat.{ℕ, zero, suc, ◌+◌, ◌-◌, ◌*◌, ◌≤◌, ◌<◌}
+use Prim.Native.Nat.{ℕ, zero, suc, ◌+◌, ◌-◌, ◌≤◌, ◌<◌}
 use mathlib.Core.Path.{◌≡◌, refl, sym, ap, ◌∙◌}
 use mathlib.Core.List.{List}
 use native.Mathlib.Omega.{arith}
@@ -157,9 +157,14 @@ module _ (list : List declared.Leg) (fit : Orderly list) (k : ℕ) (one : 1 ≤ 
       }
 
   -- the same with the leg as it was read
-  pub link_one : (from to arrive f q : ℕ) → from ≡ (leg_no list k).from → to ≡ (leg_no list k).to → arrive ≡ (get_or list (k - 1) no_leg).arrive.0
-      → f ≡ onward list (get_or head to 0) arrive → Twice jump (get_or head from 0) q
-      → Linking list (k - 1) (set head from k) (set next k (get_or head from 0)) (set follow k f) (set jump k q) (set depth k (get_or depth (get_or head from 0) 0 + 1))
-  link_one from to arrive f q ef et ea found twice =
-      let arrives : arrive ≡ arrival (leg_no list k) = omega (arith, own_leg.travels) in
-      rw ef (linking_step f q (rw (et, arrives) at found) (rw ef at twice))
+  pub link_one : (leg : declared.Leg) (f q : ℕ) → leg ≡ get_or list (k - 1) no_leg → f ≡ onward list (get_or head leg.to 0) leg.arrive.0 → Twice jump (get_or head leg.from 0) q
+      → Linking list (k - 1) (set head leg.from k) (set next k (get_or head leg.from 0)) (set follow k f) (set jump k q) (set depth k (get_or depth (get_or head leg.from 0) 0 + 1))
+  link_one leg f q read found twice =
+      let arrives : (get_or list (k - 1) no_leg).arrive.0 ≡ arrival (leg_no list k) = omega (arith, own_leg.travels) in
+      rw read (linking_step f q (rw (read, arrives) at found) (rw read at twice))
+
+  pub from_is : (leg : declared.Leg) → leg ≡ get_or list (k - 1) no_leg → leg.from < most_stops
+  from_is leg read = rw read own_leg.from_below
+
+  pub to_is : (leg : declared.Leg) → leg ≡ get_or list (k - 1) no_leg → leg.to < most_stops
+  to_is leg read = rw read own_leg.to_below

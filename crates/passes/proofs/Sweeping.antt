@@ -1,5 +1,5 @@
 -- Legs swept one after another, from the last to the first.
-use Prim.Native.Nat.{ℕ, suc, ◌+◌, ◌-◌, ◌*◌, ◌≤◌, min}
+use Prim.Native.Nat.{ℕ, suc, ◌-◌, ◌≤◌, min}
 use mathlib.Core.Path.{◌≡◌, refl, sym, ◌∙◌}
 use mathlib.Core.Bool.{cond}
 use mathlib.Core.List.{List}

@@ -1,9 +1,12 @@
 -- Links between legs. A leg goes by its number, one more than its place in the list; 0 stands for no leg.
-use Rattle.std.specs.Prelude.{ℕ, suc, ◌-◌, ◌≤◌, ◌<◌, ◌≡◌, cond, ◌&&◌, List, [], ◌∷◌, eqb, leb, length, get_or, drop}
-use Rattle.rules.specs.Day.{Row, arrival, most_stops, most_rows}
-use Rattle.rules.specs.Faultless.{Good}
+use Rattle.std.specs.Prelude.{ℕ, suc, ◌-◌, ◌≤◌, ◌<◌, ◌≡◌, refl, cond, ◌&&◌, List, [], ◌∷◌, eqb, leb, length, get_or, drop}
+use Rattle.rules.specs.Day.{Row, arrival, Sound, most_stops, most_rows}
+use Rattle.rules.specs.Faultless.{Good, good_none, good_more}
 use Rattle.passes.specs.Legs.{leg_at, legs_in}
 use Rattle.passes.specs.declared.legs.Leg as declared
+use Rattle.passes.specs.declared.links.Links.{Links}
+use Rattle.std.specs.Coded.{le_prop}
+use Rattle.std.proofs.Props.{props}
 
 -- an array over the numbers of legs has a place for each, and one for none
 abbrev pub link_places : ℕ
@@ -81,8 +84,23 @@ pub record Beside (list : List declared.Leg) (k : ℕ) (old new : List ℕ) : Ty
   pub beyond : (x : ℕ) → length list < x → get_or new x 0 ≡ get_or old x 0
 
 -- all legs are linked, and the places that belong to no leg are kept
-pub record Links (list : List declared.Leg) (next follow head' next' follow' : List ℕ) : Type 0 where
-  pub linked : Linked list 0 head' next' follow'
-  pub head_length : length head' ≡ most_stops
-  pub next_kept : Beside list 0 next next'
-  pub follow_kept : Beside list 0 follow follow'
+pub record AllLinked (list : List declared.Leg) (old new : Links) : Type 0 where
+  pub linked : Linked list 0 new.head new.next new.follow
+  pub head_length : length new.head ≡ most_stops
+  pub next_kept : Beside list 0 old.next new.next
+  pub follow_kept : Beside list 0 old.follow new.follow
+
+-- each of these facts has one proof
+sound_prop : (n : ℕ) (r : Row) → IsProp (Sound n r)
+sound_prop n r = Prim.hlevel props
+
+good_prop : (n : ℕ) (rs : List Row) → IsProp (Good n rs)
+good_prop n [] good_none good_none = refl
+good_prop n (r ∷ rs) (good_more s up g) (good_more s' up' g') =
+    λ i. good_more (sound_prop n r s s' i) (λ q m. le_prop (up q m) (up' q m) i) (good_prop n rs g g' i)
+
+pub orderly_prop : (list : List declared.Leg) → IsProp (Orderly list)
+orderly_prop list x y = λ i. record { few = le_prop x.few y.few i; good = good_prop most_stops (legs_in list) x.good y.good i }
+
+pub linked_prop : (list : List declared.Leg) (k : ℕ) (head next follow : List ℕ) → IsProp (Linked list k head next follow)
+linked_prop list k head next follow = Prim.hlevel props

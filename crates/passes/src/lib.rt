@@ -5,13 +5,14 @@ mod backward;
 mod begin;
 mod forward;
 mod legs;
+mod linked;
 mod links;
 mod reach;
 mod table;
 
-pub use backward::to_target;
 pub use forward::{UNREACHED, forward_pass};
 pub use legs::{Leg, make_legs};
-pub use links::link;
+pub use linked::LinkedLegs;
+pub use links::Links;
 pub use reach::reach_back;
 pub use table::fill_table;

@@ -4,7 +4,8 @@ use Rattle.std.proofs.Common.{sym, ◌∙◌, arith, ext_get_or}
 use Rattle.std.proofs.Math.Decide.{dec_le}
 use Rattle.passes.specs.declared.legs.Leg as declared
 use Rattle.passes.specs.Legs.{LegRead}
-use Rattle.passes.specs.Links.{Beside, Links}
+use Rattle.passes.specs.Links.{Beside, AllLinked}
+use Rattle.passes.specs.declared.links.Links.{Links}
 
 pub leg_single : {list : List declared.Leg} {j : ℕ} (l m : declared.Leg) → LegRead list j l → LegRead list j m → l ≡ m
 leg_single l m h g = h.is ∙ sym g.is
@@ -18,11 +19,9 @@ beside_single {list} {old} {new} {new'} h g same = ext_get_or 0 new new' (h.same
     go x (no l) (yes d) = same x (omega arith) d
     go x (no l) (no d) = h.beyond x (omega arith) ∙ sym (g.beyond x (omega arith))
 
-pub links_single : {list : List declared.Leg} {next follow h h' n n' f f' : List ℕ} → Links list next follow h n f → Links list next follow h' n' f' → (h ≡ h') × ((n ≡ n') × (f ≡ f'))
-links_single {h = h} {h' = h'} a b = (
-  ext_get_or 0 h h' (a.head_length ∙ sym b.head_length) (λ u l. a.linked.heads u (omega (arith, a.head_length)) ∙ sym (b.linked.heads u (omega (arith, a.head_length)))),
-  (
-    beside_single a.next_kept b.next_kept (λ x l m. a.linked.threads.nexts x l m ∙ sym (b.linked.threads.nexts x l m)),
-    beside_single a.follow_kept b.follow_kept (λ x l m. a.linked.threads.follows x l m ∙ sym (b.linked.threads.follows x l m)),
-  ),
-)
+pub links_single : {list : List declared.Leg} {old new new' : Links} → AllLinked list old new → AllLinked list old new' → new ≡ new'
+links_single {new = new} {new' = new'} a b =
+    let heads = ext_get_or 0 new.head new'.head (a.head_length ∙ sym b.head_length) (λ u l. a.linked.heads u (omega (arith, a.head_length)) ∙ sym (b.linked.heads u (omega (arith, a.head_length)))) in
+    let nexts = beside_single a.next_kept b.next_kept (λ x l m. a.linked.threads.nexts x l m ∙ sym (b.linked.threads.nexts x l m)) in
+    let follows = beside_single a.follow_kept b.follow_kept (λ x l m. a.linked.threads.follows x l m ∙ sym (b.linked.threads.follows x l m)) in
+    λ i. record { head = heads i; next = nexts i; follow = follows i }

@@ -1,5 +1,5 @@
 -- The loop: the stretches so far stand at the front, and the rest is kept.
-use Prim.Native.Nat.{ℕ, ◌+◌}
+use Prim.Native.Nat.{ℕ}
 use native.Mathlib.Omega.{arith}
 use mathlib.Core.Path.{◌≡◌, ◌∙◌}
 use mathlib.Core.List.{List}
@@ -8,7 +8,7 @@ use Rattle.rules.specs.Day.{Row}
 use Rattle.passes.specs.Legs.{legs_in}
 use Rattle.passes.specs.Forward.{stretch_of, init}
 use Rattle.passes.proofs.Laws.Passed.{passed_length, init_long}
-use Rattle.passes.proofs.Laws.Stretches.{square, next_times, table_none, table_more}
+use Rattle.passes.proofs.Laws.Stretches.{square, table_none, table_more}
 use Rattle.passes.proofs.table.fill_table.Goals as goal
 
 stretch_length : (n : ℕ) (rs : List Row) (u : ℕ) → length (stretch_of n rs u) ≡ n

@@ -1,8 +1,8 @@
 -- The loop: the stretches so far stand at the front, and the rest is kept.
-use Prim.Native.Nat.{◌-◌, ◌*◌, ◌≤◌}
+use Prim.Native.Nat.{◌*◌}
 use mathlib.Core.Path.{◌≡◌}
 use mathlib.Core.List.{◌++◌}
-use lib.ListN.{length, drop}
+use lib.ListN.{drop}
 use Rattle.passes.specs.Legs.{legs_in}
 use Rattle.passes.specs.Forward.{stretches, stretch_of}
 use Rattle.passes.proofs.table.fill_table.Given as goal
