@@ -25,7 +25,7 @@ loop-u-preserved c =
     let new = distances_to args.target ls args.n 0 in
     let reached = swept_head self.legs.now self.orderly args.target c.sweep.new.best links.head links.next links.follow loop.u self.linked c.sweep.ensures.swept (omega arith) in
     let is = c.distance_to.ensures ∙ (rw reached (sym (distances_at args.target ls args.n loop.u c.loop-u-test.true))) in
-    fill_one new args.out.now loop.u _ loop.out (omega (arith, length_distances args.target ls args.n 0)) (omega arith) loop.invariant is
+    fill_one new args.out.now loop.u c.distance_to.result loop.out (omega (arith, length_distances args.target ls args.n 0)) (omega arith) loop.invariant is
 
 pub returns : goal.returns
 returns c =
