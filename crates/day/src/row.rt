@@ -3,7 +3,7 @@ ghost use Rattle.std.specs.Prelude.{◌≡◌, ◌/◌, ◌<◌, length};
 ghost use Rattle.rules.specs.Day.{row_width, row_at, sees};
 ghost use Rattle.day.specs.Rows.{row_of, soundb, rightb};
 
-use clock::{Length, Made, Reading};
+use clock::{Length, Reading};
 
 // How many numbers a row takes.
 pub const ROW_WIDTH: usize = 5;
@@ -69,8 +69,8 @@ impl Row {
         }
         let start = self.start;
         match start.plus(travel) {
-            Made::At(_) => true,
-            Made::Past => false,
+            Some(_) => true,
+            None => false,
         }
     }
 

@@ -1,6 +1,5 @@
-pub mod Making
-pub mod Arriving
 pub mod Passing
+pub mod Timing
 pub mod Linking
 pub mod Sweeping
 pub mod Filling

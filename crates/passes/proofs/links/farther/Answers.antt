@@ -1,15 +1,19 @@
 -- By the tests of the jump and of where it leads.
 use native.Mathlib.Omega.{arith}
+use mathlib.Core.Path.{sym, ◌∙◌}
 use Rattle.passes.specs.Links.{to_near, to_far}
+use Rattle.passes.proofs.Timing.{lt_of}
 use Rattle.passes.proofs.links.farther.Goals as goal
 
 pub returns-then-far-eq0 : goal.returns-then-far-eq0
 returns-then-far-eq0 c = to_near
 
-pub returns-then-start-t : goal.returns-then-start-t
-returns-then-start-t c =
+pub returns-then-early : goal.returns-then-early
+returns-then-early c =
     let some = c.if-far-eq0.false in
-    to_far (omega arith) (omega (arith, c.leg_at-leg.ensures.start))
+    let leg = c.leg_no-leg in
+    let early = lt_of leg.result.start.0 c.args.t.0 (sym c.lt-early.ensures ∙ c.if-early.true) in
+    to_far (omega arith) (rw leg.ensures.is at early)
 
-pub returns-else-start-t : goal.returns-else-start-t
-returns-else-start-t c = to_near
+pub returns-else-early : goal.returns-else-early
+returns-else-early c = to_near

@@ -25,14 +25,14 @@ pub returns-then-travel-lt1 : goal.returns-then-travel-lt1
 unfolding soundb
 returns-then-travel-lt1 c = simp (lt-leb _ _ c.if-travel-lt1.true, and-false)
 
-pub returns-in-At : goal.returns-in-At
+pub returns-in-Some : goal.returns-in-Some
 unfolding soundb
-returns-in-At c =
+returns-in-Some c =
     let args = c.args in
-    let m = made_at _ _ (sym c.plus.ensures ∙ c.in-At.is) in sym (of_sound args.n (row_of args.self) (record { from_below = omega arith; to_below = omega arith; differ = c.if-self.false; travels = omega arith; in_day = m.0 }))
+    let m = made_at _ _ (sym c.plus.ensures ∙ c.in-Some.is) in sym (of_sound args.n (row_of args.self) (record { from_below = omega arith; to_below = omega arith; differ = c.if-self.false; travels = omega arith; in_day = m.0 }))
 
-pub returns-in-Past : goal.returns-in-Past
+pub returns-in-None : goal.returns-in-None
 unfolding soundb
-returns-in-Past c =
+returns-in-None c =
     let args = c.args in
-    simp (lt-leb _ _ (made_past (args.self.start.0 + args.self.travel.0) (sym c.plus.ensures ∙ c.in-Past.is)), and-false)
+    simp (lt-leb _ _ (made_past (args.self.start.0 + args.self.travel.0) (sym c.plus.ensures ∙ c.in-None.is)), and-false)
