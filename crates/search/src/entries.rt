@@ -12,9 +12,10 @@ pub fn later(bound: u32, arrive: u32) -> u32
     ensures { result ≡ later_of bound arrive }
 {
     if bound == UNREACHED {
-        return arrive;
+        arrive
+    } else {
+        bound.max(arrive)
     }
-    if bound < arrive { arrive } else { bound }
 }
 
 // One leg more, into `to`.
