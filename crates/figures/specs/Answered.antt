@@ -6,6 +6,7 @@ use Rattle.passes.specs.Backward.{distances_to}
 use Rattle.search.specs.Farthest.{farthest_in}
 use Rattle.search.specs.Pivots.{kept_joined}
 use Rattle.search.specs.declared.far.Far.{Far}
+use Rattle.search.specs.declared.pivots.PivotNumbers.{PivotNumbers}
 use Rattle.search.specs.declared.state.Search.{Search}
 use Rattle.day.specs.Refusals.{number_of, place_of}
 use Rattle.day.specs.declared.refusal.Refusal.{Refusal}
@@ -17,8 +18,8 @@ abbrev pub far_in : List Row → (n v : ℕ) → Far
 far_in ls n v = farthest_in (distances_to v ls n 0) v n
 
 -- the farthest source of v among those that pivots join to it
-abbrev pub far_kept : List Row → (onward into : List ℕ) (count n v : ℕ) → Far
-far_kept ls onward into count n v = farthest_in (kept_joined onward into count n v (distances_to v ls n 0)) v n
+abbrev pub far_kept : List Row → List PivotNumbers → (n v : ℕ) → Far
+far_kept ls pivots n v = farthest_in (kept_joined pivots n v (distances_to v ls n 0)) v n
 
 abbrev pub eccentricity_of : Far → Option Length
 eccentricity_of far = cond (eqb far.value 0) None (Some (record { 0 = far.value }))

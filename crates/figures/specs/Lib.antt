@@ -1,6 +1,5 @@
 pub mod Promises
 pub mod Parts
-pub mod Single
 pub mod Own
 pub mod Answered
 pub mod Starred

@@ -1,5 +1,6 @@
 -- The table in the parts in which the calls check it, and what the first part leaves.
 use Rattle.std.specs.Prelude.{ℕ, ◌+◌, ◌*◌, ◌/◌, ◌≤◌, ◌<◌, ◌≡◌, ◌⊎◌, List, [], ◌∷◌, ◌++◌, length, take, Result, Ok, Err}
+use Rattle.std.specs.Coded.{le_prop}
 use Rattle.rules.specs.Clock.{horizon}
 use Rattle.rules.specs.Day.{most_stops, most_rows, row_width, Row, rows_of, Ask, asker's_rows}
 use Rattle.rules.specs.Pivots.{pivots_of}
@@ -8,7 +9,8 @@ use Rattle.rules.specs.Lent.{Stands, Copied}
 use Rattle.rules.specs.Table.{Check, Takes, check_1, check_2, check_3, check_4, check_5, check_6, check_7, check_8, check_9, check_10, check_12, Clear, Refuses}
 use Rattle.rules.specs.Faultless.{Good}
 use Rattle.passes.specs.Legs.{legs_of, legs_in, Laid}
-use Rattle.passes.specs.Links.{Orderly}
+use Rattle.passes.specs.Links.{Orderly, good_prop}
+use Rattle.passes.specs.declared.legs.Leg.{Leg}
 use Rattle.passes.specs.Days.{rows_day}
 use Rattle.day.specs.Refusals.{number_of, place_of}
 use Rattle.day.specs.declared.refusal.Refusal.{Refusal}
@@ -48,6 +50,18 @@ pub record Ready (n A W : ℕ) (rows : List ℕ) : Type 0 where
   pub in_order : A ≤ W
   pub in_day : W ≤ horizon
 
+-- it has one proof, so that a value can carry it
+pub ready_prop : (n A W : ℕ) (rows : List ℕ) → IsProp (Ready n A W rows)
+ready_prop n A W rows x y =
+    λ i. record {
+      good = good_prop n (rows_of rows) x.good y.good i;
+      some_stop = le_prop x.some_stop y.some_stop i;
+      few_stops = le_prop x.few_stops y.few_stops i;
+      few = le_prop x.few y.few i;
+      in_order = le_prop x.in_order y.in_order i;
+      in_day = le_prop x.in_day y.in_day i;
+    }
+
 -- numbers 1 to 6 by cases: the asker's rows in the front of the room, or a refusal; by numbers 1 to 5 with the room unchanged,
 -- or by number 6 with the rows in it
 abbrev pub Prepares : Ask → (old : List ℕ) → Result ℕ Refusal → (new : List ℕ) → Type 0
@@ -56,8 +70,8 @@ Prepares q old (Err r) new =
     (Refuses (plain_checks q) (number_of r) (place_of r) × (new ≡ old))
     ⊎ (Clear (plain_checks q) × Refuses (own_check q) (number_of r) (place_of r) × ((k : ℕ) × Copied row_width numbers (asker's_rows q) old k new))
 
--- numbers are the legs of some rows, and can be passed over and linked
-pub record LegsLaid (n A W : ℕ) (rs : List Row) (legs : List ℕ) : Type 0 where
+-- the legs of some rows between n stops, in the order that a pass and the links need
+pub record LegsLaid (n A W : ℕ) (rs : List Row) (legs : List Leg) : Type 0 where
   pub read : legs_in legs ≡ legs_of A W rs
   pub laid : Laid n legs
   pub orderly : Orderly legs

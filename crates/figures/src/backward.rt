@@ -8,12 +8,11 @@ ghost use Rattle.figures.specs.Promises.{asked, room, takes, FulfilsFilling, Ful
 use crate::answers::eccentricity_of;
 use crate::ask::{Ask, ROWS_ROOM};
 use crate::checks::{SCRATCH, check_room, wipe};
-use crate::lay::LEGS_ROOM;
 use crate::own::Own;
 use crate::visits::far_to;
 use clock::Length;
-use day::Refusal;
-use passes::{link, to_target};
+use day::{MOST_ROWS, Refusal};
+use passes::{Leg, Links};
 
 impl Own<'_> {
     fn distances_to(self, target: u32, out: &mut [u32], scratch: &mut [u32]) -> Result<(), Refusal>
@@ -23,13 +22,10 @@ impl Own<'_> {
         self.check_stop(target)?;
         check_room(out, stops)?;
         check_room(scratch, SCRATCH)?;
-        let mut room = [0u32; LEGS_ROOM];
-        let legs = self.legs(&mut room);
-        let mut head = [0u32; 256];
-        let mut next = [0u32; 2049];
-        let mut follow = [0u32; 2049];
-        link(legs, &mut head, &mut next, &mut follow);
-        to_target(legs, &head, &next, &follow, target, stops, out);
+        let mut room = [Leg::BLANK; MOST_ROWS];
+        let mut links = Links::new();
+        let linked = links.fill(self.legs(&mut room));
+        linked.to_target(target, stops, out);
         wipe(scratch);
         Ok(())
     }
@@ -39,13 +35,10 @@ impl Own<'_> {
     {
         self.check_stop(stop)?;
         check_room(scratch, SCRATCH)?;
-        let mut room = [0u32; LEGS_ROOM];
-        let legs = self.legs(&mut room);
-        let mut head = [0u32; 256];
-        let mut next = [0u32; 2049];
-        let mut follow = [0u32; 2049];
-        link(legs, &mut head, &mut next, &mut follow);
-        let far = far_to(legs, &head, &next, &follow, stop, self.n as usize);
+        let mut room = [Leg::BLANK; MOST_ROWS];
+        let mut links = Links::new();
+        let linked = links.fill(self.legs(&mut room));
+        let far = far_to(&linked, stop, self.n as usize);
         wipe(scratch);
         Ok(eccentricity_of(far))
     }

@@ -9,11 +9,10 @@ ghost use Rattle.figures.specs.Promises.{asked, room, takes, FulfilsFilling, Ful
 use crate::answers::eccentricity_of;
 use crate::ask::{Ask, ROWS_ROOM};
 use crate::checks::check_room;
-use crate::lay::LEGS_ROOM;
 use crate::own::Own;
 use clock::Length;
-use day::Refusal;
-use passes::{fill_table, forward_pass};
+use day::{MOST_ROWS, Refusal};
+use passes::{Leg, fill_table, forward_pass};
 use search::farthest;
 
 impl Own<'_> {
@@ -22,7 +21,7 @@ impl Own<'_> {
         requires { (source < self.n) × (self.n ≤ length out.old) }
         ensures { Fills self.entry.n (OwnDistance (owned self.entry) source) out.old out.new }
     {
-        let mut room = [0u32; LEGS_ROOM];
+        let mut room = [Leg::BLANK; MOST_ROWS];
         let legs = self.legs(&mut room);
         forward_pass(legs, self.n as usize, source as usize, 0, out);
     }
@@ -41,7 +40,7 @@ impl Own<'_> {
     {
         let stops = self.n as usize;
         check_room(out, stops * stops)?;
-        let mut room = [0u32; LEGS_ROOM];
+        let mut room = [Leg::BLANK; MOST_ROWS];
         let legs = self.legs(&mut room);
         fill_table(legs, stops, out);
         Ok(())

@@ -12,12 +12,12 @@ ghost use Rattle.figures.specs.Promises.{asked, room, takes, Fulfils, PivotDiame
 use crate::answers::Answer;
 use crate::ask::{Ask, ROWS_ROOM};
 use crate::checks::{SCRATCH, check_room, wipe};
-use crate::lay::{LEGS_ROOM, lay_pivots};
+use crate::lay::NO_NUMBERS;
 use crate::own::Own;
-use crate::pivots::PIVOT_WIDTH;
+use crate::pivots::{MOST_PIVOTS, PIVOT_WIDTH};
 use crate::visits::{far_joined, visit_all};
-use day::Refusal;
-use passes::link;
+use day::{MOST_ROWS, Refusal};
+use passes::{Leg, Links};
 use search::{Search, pivot_bounds};
 
 impl Own<'_> {
@@ -27,19 +27,17 @@ impl Own<'_> {
         ensures { Right (OwnJoined (owned self.entry) pivots.now) (OwnUnder (owned self.entry) pivots.now) result }
     {
         let stops = self.n as usize;
-        let mut room = [0u32; LEGS_ROOM];
+        let mut room = [Leg::BLANK; MOST_ROWS];
         let legs = self.legs(&mut room);
-        let mut head = [0u32; 256];
-        let mut next = [0u32; 2049];
-        let mut follow = [0u32; 2049];
-        link(legs, &mut head, &mut next, &mut follow);
-        let mut onward = [0u32; 4096];
-        let mut into = [0u32; 4096];
-        lay_pivots(legs, pivots, stops, self.a, &mut onward, &mut into);
         let count = pivots.len() / PIVOT_WIDTH;
+        let mut numbers = [NO_NUMBERS; MOST_PIVOTS];
+        self.lay_pivots(legs, pivots, &mut numbers[..count]);
+        let numbers = &numbers[..count];
         let mut entered = [0u32; 256];
-        pivot_bounds(&onward, count, stops, &mut entered);
-        visit_all(&entered, stops, |v| far_joined(legs, &head, &next, &follow, &onward, &into, count, v, stops))
+        pivot_bounds(numbers, stops, &mut entered);
+        let mut links = Links::new();
+        let linked = links.fill(legs);
+        visit_all(&entered, stops, |v| far_joined(&linked, numbers, v, stops))
     }
 
     fn pivot_diameter(self, pivots: &[u32], scratch: &mut [u32]) -> Result<Search, Refusal>

@@ -1,6 +1,5 @@
 // What a call is over once foreign rows are struck out: the asker's own rows, all that numbers 1 to 6 ask of them known.
-ghost use Rattle.figures.specs.Parts.{Ready};
-ghost use Rattle.figures.specs.Single.{ready_single};
+ghost use Rattle.figures.specs.Parts.{Ready, ready_prop};
 
 use clock::Reading;
 
@@ -11,5 +10,5 @@ pub(crate) struct Own<'a> {
     pub(crate) n: u32,
     pub(crate) a: Reading,
     pub(crate) w: Reading,
-    ghost ready: { Ready n a.0 w.0 rows.now } by { ready_single n a.0 w.0 rows.now },
+    ghost ready: { Ready n a.0 w.0 rows.now } by { ready_prop n a.0 w.0 rows.now },
 }

@@ -13,7 +13,7 @@ use day::Refusal;
 pub const PIVOT_WIDTH: usize = 2;
 
 // How many pivots there are at most.
-const MOST_PIVOTS: usize = 16;
+pub const MOST_PIVOTS: usize = 16;
 
 // A stop, and a reading at which the rider is there.
 #[derive(Clone, Copy)]

@@ -1,60 +1,35 @@
 // The search for the farthest pair: targets taken one at a time, a backward sweep for each.
 ghost use Rattle.std.specs.Prelude.{◌≡◌, ℕ, ◌≤◌, ◌<◌, length};
 ghost use Rattle.rules.specs.Day.{most_stops};
-ghost use Rattle.rules.specs.Pivots.{most_pivots};
-ghost use Rattle.passes.specs.Links.{Orderly, Linked};
 ghost use Rattle.passes.specs.Legs.{legs_in};
 ghost use Rattle.search.specs.declared.far.Far.{Far};
 ghost use Rattle.search.specs.Visits.{begun, searched};
 ghost use Rattle.search.specs.Targets.{before_all};
-ghost use Rattle.search.specs.Pivots.{all_places};
 ghost use Rattle.figures.specs.Answered.{far_in, far_kept};
 ghost use Rattle.figures.specs.Visiting.{Follows};
 
-use passes::to_target;
-use search::{Far, Next, Place, Search, farthest, keep_joined, next_target};
+use passes::LinkedLegs;
+use search::{Far, PivotNumbers, Place, Search, farthest, keep_joined, next_target};
 
 // The farthest source of a target.
-pub(crate) fn far_to(
-    legs: &[u32],
-    head: &[u32; 256],
-    next: &[u32; 2049],
-    follow: &[u32; 2049],
-    target: u32,
-    n: usize,
-) -> Far
-    requires orderly { Orderly legs.now }
-    requires linked { Linked legs.now 0 head.now next.now follow.now }
-    requires n_le_most_stops { n ≤ most_stops }
-    ensures { result ≡ far_in (legs_in legs.now) n target }
+pub(crate) fn far_to(linked: &LinkedLegs, target: u32, n: usize) -> Far
+    requires { n ≤ most_stops }
+    ensures { result ≡ far_in (legs_in linked.now.legs.now) n target }
 {
     let mut out = [0u32; 256];
-    to_target(legs, head, next, follow, target, n, &mut out);
-    farthest(&out[0..n], n, target)
+    linked.to_target(target, n, &mut out);
+    farthest(&out[..n], n, target)
 }
 
 // The farthest source of a target among those that some pivot joins to it.
-pub(crate) fn far_joined(
-    legs: &[u32],
-    head: &[u32; 256],
-    next: &[u32; 2049],
-    follow: &[u32; 2049],
-    onward: &[u32],
-    into: &[u32],
-    count: usize,
-    target: u32,
-    n: usize,
-) -> Far
-    requires orderly { Orderly legs.now }
-    requires linked { Linked legs.now 0 head.now next.now follow.now }
-    requires n_le_most_stops { (n ≤ most_stops) × ((count ≤ most_pivots) × (target < n)) }
-    requires all_places_in_bounds { (all_places ≤ length onward.now) × (all_places ≤ length into.now) }
-    ensures { result ≡ far_kept (legs_in legs.now) onward.now into.now count n target }
+pub(crate) fn far_joined(linked: &LinkedLegs, pivots: &[PivotNumbers], target: u32, n: usize) -> Far
+    requires { (n ≤ most_stops) × (target < n) }
+    ensures { result ≡ far_kept (legs_in linked.now.legs.now) pivots.now n target }
 {
     let mut out = [0u32; 256];
-    to_target(legs, head, next, follow, target, n, &mut out);
-    keep_joined(onward, into, count, n, target, &mut out);
-    farthest(&out[0..n], n, target)
+    linked.to_target(target, n, &mut out);
+    keep_joined(pivots, n, target, &mut out);
+    farthest(&out[..n], n, target)
 }
 
 // The search over n stops with their bounds, where `far` tells the farthest source of a target.
@@ -66,7 +41,7 @@ pub(crate) fn visit_all<F: Fn(u32) -> Far>(bounds: &[u32], n: usize, far: F) -> 
     let mut st = Search::begun();
     let mut last = Place::before_all();
     for _ in 0..n {
-        let Next::At(place) = next_target(bounds, n, last) else {
+        let Some(place) = next_target(bounds, n, last) else {
             return st;
         };
         if st.stops_at(place) {

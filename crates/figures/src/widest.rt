@@ -10,11 +10,10 @@ ghost use Rattle.figures.specs.Promises.{asked, room, takes, Fulfils, DiameterPr
 use crate::answers::Answer;
 use crate::ask::{Ask, ROWS_ROOM};
 use crate::checks::{SCRATCH, check_room, wipe};
-use crate::lay::LEGS_ROOM;
 use crate::own::Own;
 use crate::visits::{far_to, visit_all};
-use day::Refusal;
-use passes::link;
+use day::{MOST_ROWS, Refusal};
+use passes::{Leg, Links};
 use search::{Search, bounds};
 
 impl Own<'_> {
@@ -23,15 +22,13 @@ impl Own<'_> {
         ensures { Right (OwnPairs (owned self.entry)) (OwnBounds (owned self.entry)) result }
     {
         let stops = self.n as usize;
-        let mut room = [0u32; LEGS_ROOM];
+        let mut room = [Leg::BLANK; MOST_ROWS];
         let legs = self.legs(&mut room);
-        let mut head = [0u32; 256];
-        let mut next = [0u32; 2049];
-        let mut follow = [0u32; 2049];
-        link(legs, &mut head, &mut next, &mut follow);
         let mut entered = [0u32; 256];
         bounds(legs, stops, &mut entered);
-        visit_all(&entered, stops, |v| far_to(legs, &head, &next, &follow, v, stops))
+        let mut links = Links::new();
+        let linked = links.fill(legs);
+        visit_all(&entered, stops, |v| far_to(&linked, v, stops))
     }
 
     fn diameter(self, scratch: &mut [u32]) -> Result<Search, Refusal>

@@ -94,7 +94,7 @@ pub record AllLinked (list : List declared.Leg) (old new : Links) : Type 0 where
 sound_prop : (n : ℕ) (r : Row) → IsProp (Sound n r)
 sound_prop n r = Prim.hlevel props
 
-good_prop : (n : ℕ) (rs : List Row) → IsProp (Good n rs)
+pub good_prop : (n : ℕ) (rs : List Row) → IsProp (Good n rs)
 good_prop n [] good_none good_none = refl
 good_prop n (r ∷ rs) (good_more s up g) (good_more s' up' g') =
     λ i. good_more (sound_prop n r s s' i) (λ q m. le_prop (up q m) (up' q m) i) (good_prop n rs g g' i)
