@@ -1,5 +1,5 @@
 -- The table in the parts in which the calls check it, and what the first part leaves.
-use Rattle.std.specs.Prelude.{ℕ, ◌+◌, ◌*◌, ◌/◌, ◌≤◌, ◌<◌, ◌≡◌, ◌⊎◌, List, [], ◌∷◌, ◌++◌, length, take, Result, Ok, Err}
+use Rattle.std.specs.Prelude.{ℕ, ◌+◌, ◌*◌, ◌/◌, ◌≤◌, ◌<◌, ◌≡◌, ◌⊎◌, List, [], ◌∷◌, ◌++◌, length, Result, Ok, Err}
 use Rattle.std.specs.Coded.{le_prop}
 use Rattle.rules.specs.Clock.{horizon}
 use Rattle.rules.specs.Day.{most_stops, most_rows, row_width, Row, rows_of, Ask, asker's_rows}
@@ -8,7 +8,7 @@ use Rattle.rules.specs.Struck.{numbers}
 use Rattle.rules.specs.Lent.{Stands, Copied}
 use Rattle.rules.specs.Table.{Check, Takes, check_1, check_2, check_3, check_4, check_5, check_6, check_7, check_8, check_9, check_10, check_12, Clear, Refuses}
 use Rattle.rules.specs.Faultless.{Good}
-use Rattle.passes.specs.Legs.{legs_of, legs_in, Laid}
+use Rattle.passes.specs.Legs.{legs_of, made_legs, Laid}
 use Rattle.passes.specs.Links.{Orderly, good_prop}
 use Rattle.passes.specs.declared.legs.Leg.{Leg}
 use Rattle.passes.specs.Days.{rows_day}
@@ -72,7 +72,7 @@ Prepares q old (Err r) new =
 
 -- the legs of some rows between n stops, in the order that a pass and the links need
 pub record LegsLaid (n A W : ℕ) (rs : List Row) (legs : List Leg) : Type 0 where
-  pub read : legs_in legs ≡ legs_of A W rs
+  pub is : legs ≡ made_legs (legs_of A W rs)
   pub laid : Laid n legs
   pub orderly : Orderly legs
 

@@ -30,7 +30,11 @@ impl Own<'_> {
         Ok(())
     }
 
-    fn backward_eccentricity(self, stop: u32, scratch: &mut [u32]) -> Result<Option<Length>, Refusal>
+    fn backward_eccentricity(
+        self,
+        stop: u32,
+        scratch: &mut [u32],
+    ) -> Result<Option<Length>, Refusal>
         ensures { FulfilsEccentricity (own_table (owned self.entry) (takes (stop ∷ []) [] (room scratch.old scratch_places ∷ []))) (Backward (OwnPairs (owned self.entry)) stop) (Wiped scratch.old scratch.new) (scratch.new ≡ scratch.old) result }
     {
         self.check_stop(stop)?;
@@ -46,7 +50,12 @@ impl Own<'_> {
 
 impl Ask<'_> {
     // The distances to a target, in the first n places of `out`.
-    pub fn distances_to(self, target: u32, out: &mut [u32], scratch: &mut [u32]) -> Result<(), Refusal>
+    pub fn distances_to(
+        self,
+        target: u32,
+        out: &mut [u32],
+        scratch: &mut [u32],
+    ) -> Result<(), Refusal>
         ensures { DistancesToPromise (asked self.entry) target out.old scratch.old result out.new scratch.new }
     {
         let mut rows = [0u32; ROWS_ROOM];
@@ -54,7 +63,11 @@ impl Ask<'_> {
     }
 
     // The greatest distance to a stop from a different stop that reaches it.
-    pub fn backward_eccentricity(self, stop: u32, scratch: &mut [u32]) -> Result<Option<Length>, Refusal>
+    pub fn backward_eccentricity(
+        self,
+        stop: u32,
+        scratch: &mut [u32],
+    ) -> Result<Option<Length>, Refusal>
         ensures { BackwardEccentricityPromise (asked self.entry) stop scratch.old result scratch.new }
     {
         let mut rows = [0u32; ROWS_ROOM];

@@ -2,7 +2,6 @@
 ghost use Rattle.std.specs.Prelude.{◌≡◌, [], ◌∷◌, ◌*◌, ◌≤◌, ◌<◌, length};
 ghost use Rattle.rules.specs.Eccentricity.{Forward};
 ghost use Rattle.rules.specs.Lent.{Fills};
-
 ghost use Rattle.figures.specs.Own.{owned, own_table, OwnDistance, OwnTable, OwnPairs};
 ghost use Rattle.figures.specs.Promises.{asked, room, takes, FulfilsFilling, FulfilsEccentricity, DistancesFromPromise, TablePromise, ForwardEccentricityPromise};
 

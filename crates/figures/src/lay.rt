@@ -5,7 +5,7 @@ ghost use Rattle.rules.specs.Day.{most_stops, most_rows, rows_of};
 ghost use Rattle.rules.specs.Pivots.{pivots_of};
 ghost use Rattle.passes.specs.Legs.{legs_in, Laid};
 ghost use Rattle.passes.specs.Pivots.{onward_pivot, into_pivot};
-ghost use Rattle.search.specs.Pivots.{numbers_over, PivotsLaid};
+ghost use Rattle.search.specs.Pivots.{numbers_over, PivotsLaid, LaidOut};
 ghost use Rattle.figures.specs.Parts.{LegsLaid};
 ghost use Rattle.figures.specs.Pivots.{pivot_width, pivot_of, AllSit};
 
@@ -44,14 +44,37 @@ impl Own<'_> {
     }
 
     // The numbers of all pivots, in the front of `list`.
-    pub(crate) fn lay_pivots(self, legs: &[Leg], pivots: &[u32], list: &mut [PivotNumbers])
+    fn lay_pivots(self, legs: &[Leg], pivots: &[u32], list: &mut [PivotNumbers])
         requires laid { Laid self.n legs.now }
         requires sit { AllSit self.n self.a.0 self.w.0 pivots.now }
         requires room { length pivots.now / pivot_width ≤ length list.old }
         ensures { PivotsLaid self.entry.n (pivots_of pivots.now) (onward_pivot self.entry.n self.entry.a.0 (legs_in legs.now)) (into_pivot self.entry.n self.entry.a.0 (legs_in legs.now)) list.old list.new }
     {
         for i in 0..pivots.len() / PIVOT_WIDTH {
-            lay_pivot(legs, self.n as usize, self.a, pivot_at(pivots, i), &mut list[i]);
+            lay_pivot(
+                legs,
+                self.n as usize,
+                self.a,
+                pivot_at(pivots, i),
+                &mut list[i],
+            );
         }
+    }
+
+    // The same, as a search reads them.
+    pub(crate) fn pivot_numbers<'r>(
+        self,
+        legs: &[Leg],
+        pivots: &[u32],
+        room: &'r mut [PivotNumbers],
+    ) -> &'r [PivotNumbers]
+        requires laid { Laid self.n legs.now }
+        requires sit { AllSit self.n self.a.0 self.w.0 pivots.now }
+        requires room { length pivots.now / pivot_width ≤ length room.old }
+        ensures { LaidOut self.entry.n (pivots_of pivots.now) (onward_pivot self.entry.n self.entry.a.0 (legs_in legs.now)) (into_pivot self.entry.n self.entry.a.0 (legs_in legs.now)) result.now }
+    {
+        let list = &mut room[..pivots.len() / PIVOT_WIDTH];
+        self.lay_pivots(legs, pivots, list);
+        list
     }
 }

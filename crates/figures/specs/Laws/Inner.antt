@@ -1,6 +1,6 @@
 -- The promises of functions that serve other modules of the crate leave one outcome too.
-use Rattle.std.specs.Prelude.{ℕ, ◌*◌, ◌≡◌, List, [], ◌∷◌, take, Result, Ok, Err}
-use Rattle.std.proofs.Common.{ap, sym, ◌∙◌, subst, inl, inr}
+use Rattle.std.specs.Prelude.{ℕ, ◌≡◌, List, [], ◌∷◌, Result, Ok, Err}
+use Rattle.std.proofs.Common.{ap, sym, ◌∙◌, inl, inr}
 use Rattle.rules.specs.Day.{Row, Ask}
 use Rattle.rules.specs.Pivots.{pivots_of}
 use Rattle.rules.specs.Table.{check_8, check_9, Refuses}
@@ -12,8 +12,7 @@ use Rattle.day.specs.declared.refusal.Refusal.{Refusal}
 use Rattle.day.specs.Laws.Single.{refusal_same}
 use Rattle.day.specs.Verdicts.{Judges}
 use Rattle.day.specs.Laws.Single.{judges_single}
-use Rattle.passes.specs.Links.{Links}
-use Rattle.passes.proofs.Laws.Single.{links_single}
+use Rattle.passes.specs.declared.legs.Leg.{Leg}
 use Rattle.figures.specs.Promises.{Filled}
 use Rattle.figures.specs.Parts.{list_checks, plain_checks, own_check, first_checks, Prepares, LegsLaid}
 
@@ -49,11 +48,5 @@ module _ (q : Ask) (old : List ℕ) where
       let e = refusal_single (first_checks q) first_one_place (number_of r) (place_of r) (number_of s) (place_of s) (first_refused new r h) (first_refused new' s g) in
       (ap Err (refusal_same r s e.0 e.1), room_single new new' r s h g)
 
-pub legs_laid_unique : (A W : ℕ) (rs : List Row) (legs next follow : List ℕ) (end end' : ℕ) (l l' h h' n n' f f' : List ℕ)
-    → LegsLaid A W rs legs next follow end l h n f → LegsLaid A W rs legs next follow end' l' h' n' f'
-    → (end ≡ end') × ((l ≡ l') × ((h ≡ h') × ((n ≡ n') × (f ≡ f'))))
-legs_laid_unique A W rs legs next follow end end' l l' h h' n n' f f' a b =
-    let c = copied_single a.copied b.copied in
-    let e : end ≡ end' = a.ends ∙ (ap (λ (k : ℕ). k * 4) c.0 ∙ sym b.ends) in
-    let same : take end l ≡ take end' l' = cc (e, c.1) in
-    (e, (c.1, links_single (subst (λ (ls : List ℕ). Links ls next follow h n f) same a.links) b.links))
+pub legs_laid_unique : (n A W : ℕ) (rs : List Row) (l l' : List Leg) → LegsLaid n A W rs l → LegsLaid n A W rs l' → l ≡ l'
+legs_laid_unique n A W rs l l' a b = a.is ∙ sym b.is
