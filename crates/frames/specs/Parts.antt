@@ -28,8 +28,3 @@ pub record Readable (line : List ℕ) (at k : ℕ) : Type 0 where
 pub record NumberAt (line : List ℕ) (at k x : ℕ) : Type 0 where
   pub fits : x < 16 ^ k
   pub spelt : take k (drop at (map small line)) ≡ digits k x
-
--- a line of digits that begins with a type
-pub record Opens (line : List ℕ) (type : ℕ) : Type 0 where
-  pub all : AllDigits line
-  pub here : NumberAt line 0 2 type

@@ -1,11 +1,11 @@
 -- A frame's text by its fields' places.
-use Rattle.std.specs.Prelude.{ℕ, zero, suc, ◌+◌, ◌/◌, ◌%◌, ◌≤◌, ◌<◌, ◌≡◌, refl, cond, List, [], ◌∷◌, ◌++◌, map, eqb, length, get_or, take, drop}
+use Rattle.std.specs.Prelude.{ℕ, zero, suc, ◌+◌, ◌/◌, ◌%◌, ◌<◌, ◌≡◌, refl, cond, List, [], ◌∷◌, ◌++◌, map, eqb, length, get_or, take, drop}
 use Rattle.std.proofs.Common.{arith, sym, ap, ◌∙◌, length-append, take-append-drop, take_at, drop-drop}
 use Rattle.std.proofs.lemmas.List.{length-map}
 use Rattle.std.proofs.Math.ListN.{get_or-map}
 use Rattle.std.proofs.Math.Seq.{drop-length}
 use Rattle.frames.specs.declared.frame.Frame.{Frame}
-use Rattle.frames.specs.declared.frame.Frame.TheVariants.{Stops, Row, Pivot, Ask, Nothing}
+use Rattle.frames.specs.declared.frame.Frame.TheVariants.{Stops, Row, Pivot, Ask}
 use Rattle.frames.specs.Text.{digit, digits, Field, two, type_of, fields_of, spell, FieldsFit, text_of, small, IsTextOf}
 use Rattle.frames.specs.Parts.{AllDigits, NumberAt}
 use Rattle.frames.proofs.Laws.Digits.{digits_length}
@@ -25,11 +25,11 @@ stand_spelt line at (f ∷ fs) (n, rest) =
     ((n.fits, t.0), sym (take-append-drop f.width l) ∙ ap (λ (p : List ℕ). p ++ drop f.width l) n.spelt ∙ ap (λ (q : List ℕ). digits f.width f.number ++ q) after)
 
 -- a line that begins with a frame's type and goes on with its fields
-pub stand_text : (f : Frame) (line : List ℕ) → 1 ≤ type_of f → NumberAt line 0 2 (type_of f) → Stand line 2 (fields_of f) → IsTextOf f line
+pub stand_text : (f : Frame) (line : List ℕ) → NumberAt line 0 2 (type_of f) → Stand line 2 (fields_of f) → IsTextOf f line
 unfolding Stand FieldsFit spell
-stand_text f line h n s =
+stand_text f line n s =
     let t = stand_spelt line 0 (two (type_of f) ∷ fields_of f) (n, s) in
-    record { frame = h; fit = t.0.1; spelt = t.1 }
+    record { fit = t.0.1; spelt = t.1 }
 
 -- Three laws of any frame's text: it begins with the type, its length goes by the type, its bytes are digits.
 
@@ -38,7 +38,6 @@ type_below (Stops n) = omega arith
 type_below (Row from to start travel owner) = omega arith
 type_below (Pivot stop reading) = omega arith
 type_below (Ask asker a w) = omega arith
-type_below Nothing = omega arith
 
 pub text_type : (f : Frame) (line : List ℕ) → IsTextOf f line → NumberAt line 0 2 (type_of f)
 unfolding spell
@@ -61,7 +60,6 @@ frame_widths (Stops n) = refl
 frame_widths (Row from to start travel owner) = refl
 frame_widths (Pivot stop reading) = refl
 frame_widths (Ask asker a w) = refl
-frame_widths Nothing = refl
 
 unfoldable pub total : List ℕ → ℕ
 total [] = 0
