@@ -1,6 +1,6 @@
 -- A line reads as one thing alone.
-use Rattle.std.specs.Prelude.{ℕ, ◌^◌, ◌<◌, ◌≡◌, refl, Option, Some, None, List, [], ◌∷◌}
-use Rattle.std.proofs.Common.{arith, sym, ap, ◌∙◌}
+use Rattle.std.specs.Prelude.{ℕ, ◌^◌, ◌<◌, ◌≡◌, refl, ◌⊎◌, Option, Some, None, List, [], ◌∷◌}
+use Rattle.std.proofs.Common.{arith, sym, ap, ◌∙◌, inl, inr}
 use Rattle.frames.specs.declared.frame.Frame.{Frame}
 use Rattle.frames.specs.declared.frame.Frame.TheVariants.{Stops, Row, Pivot, Ask}
 use Rattle.frames.specs.Text.{digits, Field, type_of, fields_of, spell, FieldsFit, IsTextOf, ReadPromise}
@@ -55,6 +55,12 @@ text_unique line f g s t =
     let after = split_same {p = digits 2 (type_of f)} {q = digits 2 (type_of g)} {r = spell (fields_of f)} {s = spell (fields_of g)} 2 (digits_length 2 (type_of f)) (digits_length 2 (type_of g)) (sym s.spelt ∙ t.spelt) in
     let same = fields_same (fields_of f) (fields_of g) w s.fit t.fit after.1 in
     let one : Some f ≡ Some g = sym (frame_of_lem f) ∙ ap frame_of same ∙ frame_of_lem g in cc
+
+-- a promised outcome is none, or a frame whose text the line is
+pub promised : (line : List ℕ) (r : Option Frame) → ReadPromise line r → ((r ≡ None) × ((f : Frame) → IsTextOf f line → ⊥)) ⊎ ((f : Frame) × (r ≡ Some f) × IsTextOf f line)
+unfolding ReadPromise
+promised line (Some f) h = inr (f, refl, h)
+promised line None h = inl (refl, h)
 
 -- a line has one promised outcome
 pub read_unique : (line : List ℕ) (r s : Option Frame) → ReadPromise line r → ReadPromise line s → r ≡ s
