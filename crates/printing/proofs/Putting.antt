@@ -1,11 +1,9 @@
 -- Bytes put one after another, and lines put together of such parts.
-use Prim.Native.Nat.{ℕ, suc, ◌+◌, ◌≤◌, ◌<◌}
-use native.Mathlib.Numerals.{add-one}
+use Prim.Native.Nat.{ℕ, ◌+◌, ◌≤◌}
 use native.Mathlib.Omega.{arith}
-use mathlib.Core.Path.{◌≡◌, refl, sym, ap, ◌∙◌}
-use mathlib.Core.List.{List, [], ◌∷◌, ◌++◌, append-nil, append_assoc}
-use lib.ListN.{length, take, drop, get_or, set, length-append}
-use lib.Seq.{take-suc, take-suc-set, take-length, drop-set-lt, drop-drop}
+use mathlib.Core.Path.{◌≡◌, refl}
+use mathlib.Core.List.{List, [], ◌∷◌, ◌++◌}
+use lib.ListN.{length, length-append}
 use Rattle.printing.specs.Lines.{Word, letters, numeral, as_letters, space, newline, Spaced, last, LineOf}
 use Rattle.printing.specs.Parts.{line_room, Puts, PutsNumber, PutsLine}
 use Rattle.printing.specs.Laws.Spelling.{spaced_next}

@@ -1,7 +1,7 @@
 // Lines of output, put together part by part.
-ghost use Rattle.std.specs.Prelude.{[], ◌∷◌, ◌+◌, ◌≤◌, ◌≡◌, length};
+ghost use Rattle.std.specs.Prelude.{[], ◌∷◌, ◌+◌, ◌≤◌, length};
 ghost use Rattle.printing.specs.Lines.{space, header_words, words_of, frame_words};
-ghost use Rattle.printing.specs.Parts.{line_room, Puts, PutsNumber, PutsLine};
+ghost use Rattle.printing.specs.Parts.{line_room, SameRoom, Puts, PutsNumber, PutsLine};
 
 use figures::Answer;
 
@@ -16,8 +16,7 @@ impl Line<'_> {
     // Puts a text.
     fn text(&mut self, text: &[u8])
         requires { self.old.at + length text.now ≤ length self.old.out.now }
-        ensures same { self.new.out.ghost_name ≡ self.old.out.ghost_name }
-        ensures long { length self.new.out.now ≡ length self.old.out.now }
+        ensures room { SameRoom self.old.out self.new.out }
         ensures puts { Puts self.old.at text.now self.old.out.now self.new.at self.new.out.now }
     {
         let end = self.at + text.len();
@@ -28,8 +27,7 @@ impl Line<'_> {
     // Puts a number in decimal.
     fn number(&mut self, x: u64)
         requires { self.old.at + 20 ≤ length self.old.out.now }
-        ensures same { self.new.out.ghost_name ≡ self.old.out.ghost_name }
-        ensures long { length self.new.out.now ≡ length self.old.out.now }
+        ensures room { SameRoom self.old.out self.new.out }
         ensures puts { PutsNumber [] x self.old.at self.old.out.now self.new.at self.new.out.now }
     {
         let mut digits = [0u8; 20];
@@ -40,8 +38,7 @@ impl Line<'_> {
     // Puts a space and a number.
     fn field(&mut self, x: u64)
         requires { self.old.at + 21 ≤ length self.old.out.now }
-        ensures same { self.new.out.ghost_name ≡ self.old.out.ghost_name }
-        ensures long { length self.new.out.now ≡ length self.old.out.now }
+        ensures room { SameRoom self.old.out self.new.out }
         ensures puts { PutsNumber (space ∷ []) x self.old.at self.old.out.now self.new.at self.new.out.now }
     {
         self.text(b" ");
@@ -81,16 +78,16 @@ pub fn answer_line(out: &mut [u8], at: usize, answer: Answer) -> usize
     line.at
 }
 
-// The line that names a line of the input that is no frame.
-pub fn frame_line(out: &mut [u8], at: usize, line: u64) -> usize
+// The line that names a line of the input, by its number, that is no frame.
+pub fn frame_line(out: &mut [u8], at: usize, number: u64) -> usize
     requires { at + line_room ≤ length out.old }
-    ensures { PutsLine (frame_words line) at out.old result out.new }
+    ensures { PutsLine (frame_words number) at out.old result out.new }
 {
-    let mut named = Line { out, at };
-    named.text(b"frame");
-    named.field(line);
-    named.text(b"\n");
-    named.at
+    let mut line = Line { out, at };
+    line.text(b"frame");
+    line.field(number);
+    line.text(b"\n");
+    line.at
 }
 
 // The header, at the front.
