@@ -2,6 +2,7 @@
 use Rattle.std.specs.Prelude.{ℕ, zero, suc, ◌+◌, ◌*◌, ◌≤◌, ◌<◌, ◌≡◌, Option, None, List, [], ◌∷◌, length}
 use Rattle.std.proofs.Math.Decide.{dec_le, ℕ_discrete}
 use Rattle.std.proofs.Common.{add-one, arith}
+use Rattle.std.proofs.lemmas.List.Elements.{All-nil, All-cons, All-head, All-tail}
 use Rattle.frames.specs.declared.frame.Frame.{Frame}
 use Rattle.frames.specs.Text.{ReadPromise}
 use Rattle.frames.specs.Parts.{IsDigit, AllDigits, NumberAt}
@@ -25,24 +26,20 @@ decide_digit b = go (dec_le 48 b) (dec_le b 57) (dec_le 65 b) (dec_le b 70) (dec
     go (yes l) (no m) (yes n) (no o) s t = last s t (omega arith)
 
 decide_digits : (line : List ℕ) → Dec (AllDigits line)
-decide_digits [] = yes (λ i h. absurd (omega arith))
+decide_digits [] = yes (All-nil IsDigit)
 decide_digits (b ∷ bs) = go (decide_digit b) (decide_digits bs)
   where
-    all : IsDigit b → AllDigits bs → AllDigits (b ∷ bs)
-    all d ds zero h = d
-    all d ds (suc i) h = ds i (omega arith)
-
     go : Dec (IsDigit b) → Dec (AllDigits bs) → Dec (AllDigits (b ∷ bs))
-    go (no n) r = no (λ h. n (h 0 (omega arith)))
-    go (yes d) (no n) = no (λ h. n (λ i l. h (suc i) (omega arith)))
-    go (yes d) (yes ds) = yes (all d ds)
+    go (no n) r = no (λ h. n (All-head IsDigit b bs h))
+    go (yes d) (no n) = no (λ h. n (All-tail IsDigit b bs h))
+    go (yes d) (yes ds) = yes (All-cons IsDigit b bs d ds)
 
 module _ (line : List ℕ) (all : AllDigits line) where
   number : (at k : ℕ) → at + k ≤ length line → (x : ℕ) × NumberAt line at k x
   number at zero h = (0, number_none line at)
   number at (suc k) h =
       let n = number at k (omega arith) in
-      let d = all (at + k) (omega arith) in
+      let d = all (at + k) 0 (omega arith) in
       (n.0 * 16 + d.0, rw (add-one k) at (number_more line at k n.0 d.0 (omega arith) n.1 d.1))
 
   abbrev Outcome : Type 0

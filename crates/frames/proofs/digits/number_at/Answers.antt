@@ -10,7 +10,7 @@ pub overflow_mul-x : goal.overflow_mul-x
 overflow_mul-x c = omega (arith, number_room c.loop-b.invariant (omega arith))
 
 pub digit-requires : goal.digit-requires
-digit-requires c = rw (part_place c.args.line.now c.args.at c.args.k c.loop-b.b-index (omega arith)) (c.requires.all _ (omega arith))
+digit-requires c = rw (part_place c.args.line.now c.args.at c.args.k c.loop-b.b-index (omega arith)) (c.requires.all _ 0 (omega arith))
 
 pub overflow_add-x : goal.overflow_add-x
 overflow_add-x c = omega (arith, number_room c.loop-b.invariant (omega arith), c.digit.ensures)
