@@ -1,9 +1,5 @@
 -- Bytes put one after another, and lines put together of such parts.
-use Prim.Native.Nat.{ℕ, ◌+◌, ◌≤◌}
-use native.Mathlib.Omega.{arith}
-use mathlib.Core.Path.{◌≡◌, refl}
-use mathlib.Core.List.{List, [], ◌∷◌, ◌++◌}
-use lib.ListN.{length, length-append}
+use Rattle.std.proofs.Common.{ℕ, ◌+◌, ◌≤◌, ◌≡◌, refl, List, [], ◌∷◌, ◌++◌, length, length-append, arith}
 use Rattle.printing.specs.Lines.{Word, letters, numeral, as_letters, space, newline, Spaced, last, LineOf}
 use Rattle.printing.specs.Parts.{line_room, Puts, PutsNumber, PutsLine}
 use Rattle.printing.specs.Laws.Spelling.{spaced_next}
