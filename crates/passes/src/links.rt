@@ -57,9 +57,9 @@ fn first_from(legs: &[Leg], next: &[u32; 2049], jump: &[u32; 2049], k: u32, t: L
 impl Jumps {
     // Where a leg before leg p of a chain jumps to: past the two jumps that follow where these are as long as each other.
     fn jump_of(&self, p: u32) -> u32
-        requires p_le_most_rows { p ≤ most_rows }
-        requires all_most { AllMost most_rows self.now.to }
-        requires all_most_2 { AllMost most_rows self.now.depth }
+        requires p_most { p ≤ most_rows }
+        requires to_most { AllMost most_rows self.now.to }
+        requires depth_most { AllMost most_rows self.now.depth }
         ensures { Twice self.now.to p result }
     {
         if p == 0 {
