@@ -6,25 +6,16 @@ use mathlib.Core.List.{List}
 use native.Mathlib.Omega.{arith}
 use lib.Dec.{eqb}
 use lib.ListN.{length, get_or, set, length-set}
-use lib.Seq.{get_or-set_same, get_or-set_other}
+use lib.Seq.{get_or-set_other}
 use Rattle.rules.specs.Day.{arrival, most_stops}
 use Rattle.passes.specs.Legs.{no_leg, LegRead}
 use Rattle.passes.specs.declared.legs.Leg as declared
-use Rattle.passes.specs.Forward.{nowhere}
 use Rattle.passes.specs.Links.{link_places, leg_no, legs_past, Orderly, Threaded, Linked}
 use Rattle.passes.specs.Backward.{by, earliest, earliest_by, Swept}
 use Rattle.passes.proofs.Laws.Links.{head_within, legs_past_more, first_leaves, leg_sound}
 use Rattle.passes.proofs.Laws.Backward.{More, uses, skips, one_more}
 use Rattle.passes.proofs.Laws.Swept.{swept_at}
 use Rattle.passes.proofs.Linking.{stored}
-
-pub swept_none : (list : List declared.Leg) (v : ℕ) (best : List ℕ) → length best ≡ link_places → Swept list v (length list) (set best 0 nowhere)
-swept_none list v best long =
-    record {
-      long = length-set best 0 nowhere ∙ long;
-      none = get_or-set_same best 0 nowhere 0 (omega arith);
-      each = λ x l h. absurd (omega arith);
-    }
 
 -- what the links lead to is one of the legs, or none
 module _ (list : List declared.Leg) (head next follow : List ℕ) (linked : Linked list 0 head next follow) (fit : Orderly list) where
