@@ -1,7 +1,7 @@
 // Links between legs, for scans from the last leg to the first. Number k stands for leg k - 1, and 0 for none.
 ghost use Rattle.std.specs.Prelude.{◌≡◌, ◌-◌, ◌≤◌, length};
 ghost use Rattle.rules.specs.Day.{most_rows};
-ghost use Rattle.passes.specs.Links.{Orderly, AllLinked, onward, Chained, Farther, Twice, AllMost};
+ghost use Rattle.passes.specs.Links.{Orderly, AllLinked, no_links, onward, Chained, Farther, Twice, AllMost};
 
 use crate::legs::{Leg, leg_no};
 use crate::linked::LinkedLegs;
@@ -83,7 +83,9 @@ impl Jumps {
 
 impl Links {
     // No leg is linked.
-    pub fn new() -> Links {
+    pub fn new() -> Links
+        ensures { result ≡ no_links }
+    {
         Links {
             head: [0; 256],
             next: [0; 2049],
