@@ -1,5 +1,3 @@
-pub mod Making
-pub mod Arriving
 pub mod Passing
 pub mod Linking
 pub mod Sweeping

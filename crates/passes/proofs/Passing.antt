@@ -1,28 +1,41 @@
 -- The loop of the pass: one leg more, and what stays outside the stops.
-use Prim.Native.Nat.{ℕ, ◌+◌, ◌-◌, ◌*◌, ◌/◌, ◌≤◌, ◌<◌}
+use Prim.Native.Nat.{ℕ, suc, ◌+◌, ◌≤◌, ◌<◌}
 use native.Mathlib.Omega.{arith}
+use native.Mathlib.Numerals.{add-one}
 use mathlib.Core.Path.{◌≡◌, ap, ◌∙◌}
-use mathlib.Core.List.{List}
+use mathlib.Core.List.Memᴰ
+use mathlib.Core.List.{List, [], ◌∷◌, Memᴰ}
 use lib.ListN.{length, get_or}
-use Rattle.rules.specs.Words.{things_from}
 use Rattle.rules.specs.Day.{Row, arrival}
-use Rattle.rules.proofs.Laws.Written.{things_more, things_member}
-use Rattle.passes.specs.Legs.{leg_width, leg_at, legs_in, Laid, LegRead}
+use Rattle.passes.specs.Legs.{leg_at, legs_in, no_leg, Laid}
+use Rattle.passes.specs.Links.{legs_past}
 use Rattle.passes.specs.Forward.{relaxed, passed}
+use Rattle.passes.proofs.Laws.Links.{legs_past_more}
 use Rattle.passes.proofs.Laws.Passed.{Inside}
-use Rattle.passes.specs.declared.legs.Leg.{Leg}
+use Rattle.passes.specs.declared.legs.Leg as declared
 
-pub passed_next : (list : List ℕ) (m j : ℕ) (l : Leg) (st : List ℕ) → j < m → LegRead list j l → get_or list (j * leg_width + 2) 0 ≤ get_or list (j * leg_width + 3) 0
-    → passed (things_from (leg_at list) (m - j) j) st ≡ passed (things_from (leg_at list) (m - (j + 1)) (j + 1)) (relaxed st l.from l.to l.start.0 l.arrive.0)
+-- a leg that does not fall arrives at its arrival
+pub arrives : (list : List declared.Leg) (j : ℕ) → (get_or list j no_leg).start.0 ≤ (get_or list j no_leg).arrive.0 → arrival (leg_at list j) ≡ (get_or list j no_leg).arrive.0
+arrives list j rises = omega arith
+
+pub passed_next : (list : List declared.Leg) (j : ℕ) (st : List ℕ) → j < length list → (get_or list j no_leg).start.0 ≤ (get_or list j no_leg).arrive.0
+    → passed (legs_past list j) st
+    ≡ passed (legs_past list (j + 1)) (relaxed st (get_or list j no_leg).from (get_or list j no_leg).to (get_or list j no_leg).start.0 (get_or list j no_leg).arrive.0)
 unfolding passed
-passed_next list m j l st h r rises =
-    let at = j * leg_width in
-    let rest = things_from (leg_at list) (m - (j + 1)) (j + 1) in
-    let same : arrival (leg_at list j) ≡ get_or list (at + 3) 0 = omega arith in
-    ap (λ (rs : List Row). passed rs st) (things_more (leg_at list) m j h)
-    ∙ (ap (λ (a : ℕ). passed rest (relaxed st (get_or list at 0) (get_or list (at + 1) 0) (get_or list (at + 2) 0) a)) same ∙ rw (r.from, r.to, r.start, r.arrive))
+passed_next list j st h rises =
+    let leg = get_or list j no_leg in
+    rw (add-one j)
+    (ap (λ (rs : List Row). passed rs st) (legs_past_more list j h)
+    ∙ ap (λ (a : ℕ). passed (legs_past list (suc j)) (relaxed st leg.from leg.to leg.start.0 a)) (arrives list j rises))
 
-pub laid_inside : (n : ℕ) (list : List ℕ) → Laid n list → Inside n (legs_in list)
-laid_inside n list h q m =
-    let t = things_member (leg_at list) (length list / leg_width) 0 q m in
-    rw t.3 (h.from_below t.0 (omega (arith, t.2)), h.to_below t.0 (omega (arith, t.2)))
+pub laid_inside : (n : ℕ) (list : List declared.Leg) → Laid n list → Inside n (legs_in list)
+laid_inside n [] h q m = absurd (Memᴰ.not-nil m)
+laid_inside n (l ∷ list) h q (Memᴰ.head e) = rw e (h.from_below 0 (omega arith), h.to_below 0 (omega arith))
+laid_inside n (l ∷ list) h q (Memᴰ.tail m) =
+    laid_inside n list
+    (record {
+      from_below = λ j b. h.from_below (suc j) (omega arith);
+      to_below = λ j b. h.to_below (suc j) (omega arith);
+      rises = λ j b. h.rises (suc j) (omega arith);
+    })
+    q m

@@ -2,7 +2,8 @@
 use Rattle.std.specs.Prelude.{ℕ, zero, suc, ◌-◌, ◌≤◌, ◌<◌, min, ◌≡◌, cond, ◌&&◌, List, [], ◌∷◌, eqb, leb, length, get_or, set}
 use Rattle.rules.specs.Day.{Row, arrival}
 use Rattle.passes.specs.Forward.{nowhere}
-use Rattle.passes.specs.Links.{link_places, leg_count, leg_no, legs_past, Beside}
+use Rattle.passes.specs.declared.legs.Leg as declared
+use Rattle.passes.specs.Links.{link_places, leg_no, legs_past, Beside}
 
 -- by one leg: it enters the target, or x is the earliest arrival by what may follow it
 abbrev pub by : (target : ℕ) → Row → (x : ℕ) → ℕ
@@ -16,17 +17,17 @@ earliest target s t (r ∷ rs) =
     cond (eqb r.from s && leb t r.start) (min (by target r (earliest target r.to (arrival r) rs)) rest) rest
 
 -- the earliest arrival by leg k or a later one of its from-stop
-abbrev pub earliest_by : List ℕ → (target k : ℕ) → ℕ
+abbrev pub earliest_by : List declared.Leg → (target k : ℕ) → ℕ
 earliest_by list target k = earliest target (leg_no list k).from 0 (legs_past list (k - 1))
 
 -- the legs with numbers above k are swept
-pub record Swept (list : List ℕ) (target k : ℕ) (best : List ℕ) : Type 0 where
+pub record Swept (list : List declared.Leg) (target k : ℕ) (best : List ℕ) : Type 0 where
   pub long : length best ≡ link_places
   pub none : get_or best 0 0 ≡ nowhere
-  pub each : (x : ℕ) → k < x → x ≤ leg_count list → get_or best x 0 ≡ earliest_by list target x
+  pub each : (x : ℕ) → k < x → x ≤ length list → get_or best x 0 ≡ earliest_by list target x
 
 -- all legs are swept: place 0, which is for no leg, is nowhere, and the places past the legs are kept
-pub record Sweeps (list : List ℕ) (target : ℕ) (old new : List ℕ) : Type 0 where
+pub record Sweeps (list : List declared.Leg) (target : ℕ) (old new : List ℕ) : Type 0 where
   pub swept : Swept list target 0 new
   pub kept : Beside list 0 (set old 0 nowhere) new
 

@@ -1,8 +1,7 @@
 -- The forward pass: one scan of the rows in list order. Place v of the state holds the least arrival found at stop v, or nowhere.
-use Rattle.std.specs.Prelude.{ℕ, zero, suc, min, Bool, cond, ◌&&◌, List, [], ◌∷◌, ◌++◌, eqb, leb, ltb, get_or, set, replicate}
+use Rattle.std.specs.Prelude.{ℕ, zero, suc, min, Bool, cond, ◌&&◌, List, [], ◌∷◌, ◌++◌, eqb, leb, ltb, get_or, set, replicate, Option, Some, None}
 use Rattle.rules.specs.Day.{Row, arrival}
-use Rattle.passes.specs.declared.forward.Arrival.{Arrival}
-use Rattle.passes.specs.declared.forward.Arrival.TheVariants.{After, Unreached}
+use Rattle.clock.specs.declared.Length.{Length}
 
 -- above every reading; in a list of numbers it is unreached
 abbrev pub nowhere : ℕ
@@ -22,9 +21,9 @@ pass W (r ∷ rs) st = pass W rs (step W r st)
 unfoldable pub init : (A u n : ℕ) → List ℕ
 init A u n = set (replicate n nowhere) u A
 
--- the arrival that a number stands for
-abbrev pub arrival_of : ℕ → Arrival
-arrival_of x = cond (eqb x nowhere) Unreached (After (record { 0 = x }))
+-- the arrival that a number stands for, or none where it is unreached
+abbrev pub arrival_of : ℕ → Option Length
+arrival_of x = cond (eqb x nowhere) None (Some (record { 0 = x }))
 
 -- the arrival at a leg's to-stop, known so far, once a rider who is at its from-stop at `here` may take the leg
 abbrev pub offered : (here start arrive known : ℕ) → ℕ

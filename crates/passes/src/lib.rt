@@ -2,17 +2,17 @@
 #![tactic(auto)]
 
 mod backward;
+mod begin;
 mod forward;
-mod front;
 mod legs;
+mod linked;
 mod links;
 mod reach;
 mod table;
 
-pub use backward::to_target;
 pub use forward::{UNREACHED, forward_pass};
-pub use front::fill;
-pub use legs::{LEG_WIDTH, make_legs};
-pub use links::link;
+pub use legs::{Leg, make_legs};
+pub use linked::LinkedLegs;
+pub use links::Links;
 pub use reach::reach_back;
 pub use table::fill_table;

@@ -1,88 +1,128 @@
 // Links between legs, for scans from the last leg to the first. Number k stands for leg k - 1, and 0 for none.
 ghost use Rattle.std.specs.Prelude.{◌≡◌, ◌-◌, ◌≤◌, length};
 ghost use Rattle.rules.specs.Day.{most_rows};
-ghost use Rattle.passes.specs.Links.{link_places, leg_count, Orderly, Links, onward, Chained, Farther, Twice, AllMost};
+ghost use Rattle.passes.specs.Links.{Orderly, AllLinked, no_links, onward, Chained, Farther, Twice, AllMost};
 
-use crate::legs::{LEG_WIDTH, leg_at};
+use crate::legs::{Leg, leg_no};
+use crate::linked::LinkedLegs;
+use clock::Length;
+
+// Each stop's first leg, and for each leg the next one of its from-stop and the first that may follow it.
+#[derive(Drop)]
+pub struct Links {
+    pub head: [u32; 256],
+    pub next: [u32; 2049],
+    pub follow: [u32; 2049],
+}
+
+// For each leg where it jumps to, and how many legs of its chain there are from it on.
+#[derive(Drop)]
+struct Jumps {
+    to: [u32; 2049],
+    depth: [u32; 2049],
+}
 
 // Where a search for a start at t or later goes next: a jump may only land on a leg that starts too early.
-fn farther(legs: &[u32], near: u32, far: u32, t: u32) -> u32
-    requires { far ≤ leg_count legs.now }
-    ensures { Farther legs.now near far t result }
+#[tactic(auto, using(crate::specs::Links::to_near, crate::specs::Links::to_far))]
+fn farther(legs: &[Leg], near: u32, far: u32, t: Length) -> u32
+    requires { far ≤ length legs.now }
+    ensures { Farther legs.now near far t.0 result }
 {
     if far == 0 {
         return near;
     }
-    let leg = leg_at(legs, far as usize - 1);
-    let start = leg.start;
-    if start.0 < t { far } else { near }
+    if leg_no(legs, far as usize).start < t {
+        far
+    } else {
+        near
+    }
 }
 
 // The first leg of a chain, from its leg k on, that starts at t or later.
-fn first_from(legs: &[u32], next: &[u32; 2049], jump: &[u32; 2049], k: u32, t: u32) -> u32
+#[tactic(auto, using(crate::proofs::Laws::Links::onward_here))]
+fn first_from(legs: &[Leg], next: &[u32; 2049], jump: &[u32; 2049], k: u32, t: Length) -> u32
     requires orderly { Orderly legs.now }
-    requires k_bound { k ≤ leg_count legs.now }
+    requires k_bound { k ≤ length legs.now }
     requires chained { 1 ≤ k → Chained legs.now (k - 1) next.now jump.now }
-    ensures { result ≡ onward legs.now k t }
+    ensures { result ≡ onward legs.now k t.0 }
 {
     let mut j = k;
     while j > 0 {
-        let leg = leg_at(legs, j as usize - 1);
-        let start = leg.start;
-        if t <= start.0 {
+        if t <= leg_no(legs, j as usize).start {
             return j;
         }
-        let near = next[j as usize];
-        let far = jump[j as usize];
-        j = farther(legs, near, far, t);
+        j = farther(legs, next[j as usize], jump[j as usize], t);
     }
     0
 }
 
-// Where a leg before leg p of a chain jumps to: past the two jumps that follow where these are as long as each other.
-fn jump_of(jump: &[u32; 2049], depth: &[u32; 2049], p: u32) -> u32
-    requires p_le_most_rows { p ≤ most_rows }
-    requires all_most { AllMost most_rows jump.now }
-    requires all_most_2 { AllMost most_rows depth.now }
-    ensures { Twice jump.now p result }
-{
-    if p == 0 {
-        return 0;
+impl Jumps {
+    // Where a leg before leg p of a chain jumps to: past the two jumps that follow where these are as long as each other.
+    #[tactic(auto, using(crate::specs::Links::to_next, crate::specs::Links::to_second))]
+    fn jump_of(&self, p: u32) -> u32
+        requires p_most { p ≤ most_rows }
+        requires to_most { AllMost most_rows self.now.to }
+        requires depth_most { AllMost most_rows self.now.depth }
+        ensures { Twice self.now.to p result }
+    {
+        if p == 0 {
+            return 0;
+        }
+        let q = self.to[p as usize];
+        if q == 0 {
+            return p;
+        }
+        let r = self.to[q as usize];
+        let middle = self.depth[q as usize];
+        if self.depth[p as usize] + self.depth[r as usize] == middle + middle {
+            return r;
+        }
+        p
     }
-    let q = jump[p as usize];
-    if q == 0 {
-        return p;
-    }
-    let r = jump[q as usize];
-    let middle = depth[q as usize];
-    if depth[p as usize] + depth[r as usize] == middle + middle {
-        return r;
-    }
-    p
 }
 
-// Fills in the links of all legs; a place that belongs to no leg is kept.
-pub fn link(legs: &[u32], head: &mut [u32; 256], next: &mut [u32; 2049], follow: &mut [u32; 2049])
-    requires orderly { Orderly legs.now }
-    requires next_len { length next.old ≡ link_places }
-    requires follow_len { length follow.old ≡ link_places }
-    ensures { Links legs.now next.old follow.old head.new next.new follow.new }
-{
-    *head = [0u32; 256];
-    let mut jump = [0u32; 2049];
-    let mut depth = [0u32; 2049];
-    let mut k = legs.len() / LEG_WIDTH;
-    while k > 0 {
-        let leg = leg_at(legs, k - 1);
-        let from = leg.from as usize;
-        let to = leg.to as usize;
-        let arrive = leg.arrive;
-        follow[k] = first_from(legs, next, &jump, head[to], arrive.0);
-        let after = head[from];
-        next[k] = after;
-        jump[k] = jump_of(&jump, &depth, after);
-        depth[k] = depth[after as usize] + 1;
-        head[from] = k as u32;
-        k -= 1;
+impl Links {
+    // No leg is linked.
+    pub fn new() -> Links
+        ensures { result ≡ no_links }
+    {
+        Links {
+            head: [0; 256],
+            next: [0; 2049],
+            follow: [0; 2049],
+        }
+    }
+
+    // Fills in the links of all legs; a place that belongs to no leg is kept.
+    fn link(&mut self, legs: &[Leg])
+        requires { Orderly legs.now }
+        ensures { AllLinked legs.now self.old self.new }
+    {
+        self.head = [0; 256];
+        let mut jumps = Jumps {
+            to: [0; 2049],
+            depth: [0; 2049],
+        };
+        for k in (1..=legs.len()).rev() {
+            let leg = leg_no(legs, k);
+            let from = leg.from as usize;
+            let to = leg.to as usize;
+            self.follow[k] = first_from(legs, &self.next, &jumps.to, self.head[to], leg.arrive);
+            let after = self.head[from];
+            self.next[k] = after;
+            jumps.to[k] = jumps.jump_of(after);
+            jumps.depth[k] = jumps.depth[after as usize] + 1;
+            self.head[from] = k as u32;
+        }
+    }
+
+    // The legs with their links filled in; a place that belongs to no leg is kept.
+    pub fn fill<'a>(&'a mut self, legs: &'a [Leg]) -> LinkedLegs<'a>
+        requires { Orderly legs.now }
+        ensures legs { result.legs.now ≡ legs.now }
+        ensures links { AllLinked legs.now self.old result.links.now }
+    {
+        self.link(legs);
+        LinkedLegs { legs, links: self }
     }
 }

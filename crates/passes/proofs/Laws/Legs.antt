@@ -1,14 +1,15 @@
 -- Legs have the routes of the rows that they come from, and so the same distances.
-use Rattle.std.specs.Prelude.{ℕ, zero, suc, ◌+◌, ◌-◌, ◌*◌, ◌/◌, ◌≤◌, ◌<◌, ◌≡◌, refl, Bool, true, false, cond, ◌&&◌, leb, length, get_or}
-use Rattle.std.proofs.Common.{ap, sym, ◌∙◌, arith, get_or-append-add, leb-true, le-leb}
+use Rattle.std.specs.Prelude.{ℕ, zero, suc, ◌+◌, ◌-◌, ◌≤◌, ◌<◌, ◌≡◌, refl, Bool, true, false, cond, ◌&&◌, leb, length, get_or}
+use Rattle.std.proofs.Common.{ap, sym, ◌∙◌, arith, leb-true, le-leb}
 use mathlib.Core.List.Memᴰ
 use mathlib.Core.List.{List, [], ◌∷◌, ◌++◌, Memᴰ}
 use Rattle.rules.specs.Day.{Row, arrival}
 use Rattle.rules.specs.Routes.{Route, ride, onto, Compatible, Dist, Earliest, itself, reached, no_route}
 use Rattle.rules.specs.Faultless.{Good, good_none, good_more}
 use Rattle.rules.specs.Words.{written}
-use Rattle.rules.proofs.Laws.Written.{length_written, written_read}
-use Rattle.passes.specs.Legs.{leg_of, legs_of, leg_day, leg_width, leg_numbers, leg_numbers_of, leg_at, legs_in, Laid}
+use Rattle.rules.proofs.Laws.Written.{length_written}
+use Rattle.passes.specs.declared.legs.Leg as declared
+use Rattle.passes.specs.Legs.{leg_of, legs_of, leg_day, alone, made_legs, legs_in, no_leg, Laid}
 use Rattle.passes.proofs.Laws.Chains.{spans}
 use Rattle.passes.specs.Days.{rows_day}
 
@@ -175,52 +176,47 @@ pub legs_distance : (A W : ℕ) (rs : List Row) (u v : ℕ) {d : Dist} → A ≤
 legs_distance A W rs u v aw h = legs_distance_in A W rs A W 0 (W - A) (omega arith) (omega arith) (omega arith) u v h
 
 -- what is laid out is read again
-past_leg : (r : Row) (list : List ℕ) (j k : ℕ) → k ≡ leg_width + j → get_or (leg_numbers r ++ list) k 0 ≡ get_or list j 0
-past_leg r list j k e = rw e (get_or-append-add (leg_numbers r) list j 0)
+pub length_legs : (rs : List Row) → length (made_legs rs) ≡ length rs
+length_legs rs = omega (arith, length_written 1 alone (λ r. refl) rs)
 
-next_leg : (r : Row) (list : List ℕ) (j : ℕ) → leg_at (leg_numbers r ++ list) (suc j) ≡ leg_at list j
-next_leg r list j =
-    cc (
-      past_leg r list (j * leg_width) (suc j * leg_width) (omega arith),
-      past_leg r list (j * leg_width + 1) (suc j * leg_width + 1) (omega arith),
-      past_leg r list (j * leg_width + 2) (suc j * leg_width + 2) (omega arith),
-      past_leg r list (j * leg_width + 3) (suc j * leg_width + 3) (omega arith),
-    )
-
-pub length_legs : (rs : List Row) → length (leg_numbers_of rs) ≡ length rs * leg_width
-length_legs = length_written leg_width leg_numbers (λ r. refl)
-
-pub legs_read : (A W : ℕ) (rs : List Row) → legs_in (leg_numbers_of (legs_of A W rs)) ≡ legs_of A W rs
-legs_read A W rs =
-    let e : length (leg_numbers_of (legs_of A W rs)) / leg_width ≡ length (legs_of A W rs) = omega (arith, length_legs (legs_of A W rs)) in
-    rw e (written_read leg_width leg_numbers (λ r. refl) leg_at next_leg (legs_of A W rs) one)
-  where
-    one : (r : Row) → Memᴰ r (legs_of A W rs) → (list : List ℕ) → leg_at (leg_numbers r ++ list) 0 ≡ r
-    one r m list =
-        let t = ap (λ (q : Row). q.owner) (leg_out A W rs r m).is in
-        let s : arrival r - r.start ≡ r.travel = omega arith in
-        rw (s, sym t)
-
--- a leg between stops below n, that arrives no earlier than it starts
-abbrev At4 : (n : ℕ) (list : List ℕ) (at : ℕ) → Type 0
-At4 n list at = (get_or list at 0 < n) × (get_or list (at + 1) 0 < n) × (get_or list (at + 2) 0 ≤ get_or list (at + 3) 0)
-
-each_laid : (n : ℕ) (rs : List Row) → ((r : Row) → Memᴰ r rs → (r.from < n) × (r.to < n)) → (j : ℕ) → j < length rs → At4 n (leg_numbers_of rs) (j * leg_width)
+read_again : (rs : List Row) → ((r : Row) → Memᴰ r rs → r.owner ≡ 0) → legs_in (made_legs rs) ≡ rs
 unfolding written
-each_laid n [] h j l = absurd (omega arith)
-each_laid n (r ∷ rs) h zero l = let b = h r (Memᴰ.head refl) in (b.0, b.1, omega arith)
-each_laid n (r ∷ rs) h (suc j) l =
-    let t = each_laid n rs (λ q m. h q (Memᴰ.tail m)) j (omega arith) in
-    let list = written leg_numbers rs in (
-      rw (past_leg r list (j * leg_width) (suc j * leg_width) (omega arith)) t.0,
-      rw (past_leg r list (j * leg_width + 1) (suc j * leg_width + 1) (omega arith)) t.1,
-      rw (past_leg r list (j * leg_width + 2) (suc j * leg_width + 2) (omega arith), past_leg r list (j * leg_width + 3) (suc j * leg_width + 3) (omega arith)) t.2,
-    )
+read_again [] h = refl
+read_again (r ∷ rs) h =
+    let s : arrival r - r.start ≡ r.travel = omega arith in
+    rw (s, sym (h r (Memᴰ.head refl)), read_again rs (λ q m. h q (Memᴰ.tail m)))
 
-pub legs_laid : (n : ℕ) (rs : List Row) → ((r : Row) → Memᴰ r rs → (r.from < n) × (r.to < n)) → Laid n (leg_numbers_of rs)
-legs_laid n rs h =
-    record {
-      from_below = λ j l. (each_laid n rs h j (omega (arith, length_legs rs))).0;
-      to_below = λ j l. (each_laid n rs h j (omega (arith, length_legs rs))).1;
-      rises = λ j l. (each_laid n rs h j (omega (arith, length_legs rs))).2;
-    }
+pub legs_read : (A W : ℕ) (rs : List Row) → legs_in (made_legs (legs_of A W rs)) ≡ legs_of A W rs
+legs_read A W rs = read_again (legs_of A W rs) (λ r m. ap (λ (q : Row). q.owner) (leg_out A W rs r m).is)
+
+-- legs between stops below n, made of rows
+pub legs_laid : (n : ℕ) (rs : List Row) → ((r : Row) → Memᴰ r rs → (r.from < n) × (r.to < n)) → Laid n (made_legs rs)
+unfolding written
+legs_laid n [] h = record { from_below = λ j l. absurd (omega arith); to_below = λ j l. absurd (omega arith); rises = λ j l. absurd (omega arith) }
+legs_laid n (r ∷ rs) h = go (h r (Memᴰ.head refl)) (legs_laid n rs (λ q m. h q (Memᴰ.tail m)))
+  where
+    go : (r.from < n) × (r.to < n) → Laid n (made_legs rs) → Laid n (alone r ++ made_legs rs)
+    go own rest =
+        record {
+          from_below = from_below own rest.from_below;
+          to_below = to_below own rest.to_below;
+          rises = rises rest.rises;
+        }
+      where
+        leg : ℕ → declared.Leg
+        leg j = get_or (made_legs rs) j no_leg
+
+        more : ℕ → declared.Leg
+        more j = get_or (alone r ++ made_legs rs) j no_leg
+
+        from_below : (r.from < n) × (r.to < n) → ((j : ℕ) → j < length (made_legs rs) → (leg j).from < n) → (j : ℕ) → j < suc (length (made_legs rs)) → (more j).from < n
+        from_below own rest zero l = own.0
+        from_below own rest (suc j) l = rest j (omega arith)
+
+        to_below : (r.from < n) × (r.to < n) → ((j : ℕ) → j < length (made_legs rs) → (leg j).to < n) → (j : ℕ) → j < suc (length (made_legs rs)) → (more j).to < n
+        to_below own rest zero l = own.1
+        to_below own rest (suc j) l = rest j (omega arith)
+
+        rises : ((j : ℕ) → j < length (made_legs rs) → (leg j).start.0 ≤ (leg j).arrive.0) → (j : ℕ) → j < suc (length (made_legs rs)) → (more j).start.0 ≤ (more j).arrive.0
+        rises rest zero l = omega arith
+        rises rest (suc j) l = rest j (omega arith)

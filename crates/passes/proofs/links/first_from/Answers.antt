@@ -2,26 +2,31 @@
 use Prim.Native.Nat.{ℕ, ◌-◌, ◌%◌, ◌≤◌, ◌<◌}
 use native.Mathlib.Omega.{arith}
 use native.Mathlib.Decide.{dec_le}
-use mathlib.Core.Path.{sym, ◌∙◌}
+use mathlib.Core.Path.{◌≡◌, ◌∙◌}
 use mathlib.Core.List.{List}
+use lib.ListN.{length, get_or}
 use Rattle.rules.specs.Day.{most_rows}
-use Rattle.passes.specs.Links.{link_places, leg_count, Jump, Chained}
-use Rattle.passes.proofs.Laws.Links.{onward_here, farther_jump, farther_onward}
+use Rattle.std.proofs.lemmas.Grind.{common_steps}
+use Rattle.passes.specs.declared.legs.Leg.{Leg}
+use Rattle.passes.specs.Links.{link_places, leg_no, first_past, Jump, Chained}
+use Rattle.passes.proofs.Laws.Links.{farther_jump, farther_onward}
 use Rattle.passes.proofs.links.first_from.Goals as goal
 
 -- a jump leads closer to the end of the legs, and none is past it
-jump-falls : (list : List ℕ) (k q : ℕ) → 1 ≤ k → k ≤ most_rows → leg_count list ≤ most_rows → Jump list k q → (link_places - q) % link_places < (link_places - k) % link_places
+jump-falls : (list : List Leg) (k q : ℕ) → 1 ≤ k → k ≤ most_rows → length list ≤ most_rows → Jump list k q → (link_places - q) % link_places < (link_places - k) % link_places
 jump-falls list k q one few most jump = go (dec_le 1 q)
   where
     go : Dec (1 ≤ q) → (link_places - q) % link_places < (link_places - k) % link_places
     go (yes d) = omega (arith, jump.later d, jump.most)
     go (no d) = omega arith
 
-pub returns-then-t-start : goal.returns-then-t-start
-returns-then-t-start c =
-    let args = c.args in
-    let loop = c.loop-j in
-    sym (onward_here args.legs.now loop.j args.t c.loop-j-test.true loop.invariant.0 (omega (arith, c.leg_at-leg.ensures.start))) ∙ loop.invariant.1.1
+-- leg j lies on the chain from leg k
+module _ {list : List Leg} {next jump : List ℕ} {k j : ℕ} (chained : Chained list (k - 1) next jump) (past : (1 ≤ k) × (k ≤ j)) (within : j ≤ length list) where
+  next_on : get_or next j 0 ≡ first_past list j (leg_no list j).from 0
+  next_on = chained.nexts j (omega arith) within
+
+  jump_on : Jump list j (get_or jump j 0)
+  jump_on = chained.jumps j (omega arith) within
 
 pub loop-j-smaller : goal.loop-j-smaller
 loop-j-smaller c =
@@ -30,10 +35,10 @@ loop-j-smaller c =
     let loop = c.loop-j in
     let on = c.loop-j-test.true in
     let within = loop.invariant.0 in
-    let chained = (let known : let args = c.args in Chained args.legs.now (c.loop-j.j - 1) args.next.now args.jump.now = let past = c.loop-j.invariant.1.0 c.loop-j-test.true in let chained = c.requires.chained past.0 in record { nexts = λ x l h. chained.nexts x (omega arith) h; jumps = λ x l h. chained.jumps x (omega arith) h } in known) in
-    let next = chained.nexts loop.j (omega arith) within in
-    let jump = chained.jumps loop.j (omega arith) within in
-    jump-falls args.legs.now loop.j _ on (omega arith) fit.few (farther_jump args.legs.now fit loop.j args.t _ _ on within next jump c.farther-j.ensures)
+    let past = loop.invariant.1.0 on in
+    let chained = c.requires.chained past.0 in
+    let jump = farther_jump args.legs.now fit loop.j args.t.0 _ _ on within (next_on chained past within) (jump_on chained past within) c.farther-j.ensures in
+    jump-falls args.legs.now loop.j _ on (omega (arith, fit.few)) fit.few jump
 
 pub loop-j-preserved : goal.loop-j-preserved
 loop-j-preserved c =
@@ -42,10 +47,15 @@ loop-j-preserved c =
     let loop = c.loop-j in
     let on = c.loop-j-test.true in
     let within = loop.invariant.0 in
-    let chained = (let known : let args = c.args in Chained args.legs.now (c.loop-j.j - 1) args.next.now args.jump.now = let past = c.loop-j.invariant.1.0 c.loop-j-test.true in let chained = c.requires.chained past.0 in record { nexts = λ x l h. chained.nexts x (omega arith) h; jumps = λ x l h. chained.jumps x (omega arith) h } in known) in
-    let next = chained.nexts loop.j (omega arith) within in
-    let jump = chained.jumps loop.j (omega arith) within in
     let past = loop.invariant.1.0 on in
-    let f = c.farther-j.ensures in
-    let j = farther_jump args.legs.now fit loop.j args.t _ _ on within next jump f in
-    (j.most, (λ one. (past.0, omega (arith, j.later one, past.1)), farther_onward args.legs.now fit loop.j args.t _ _ on within next jump (omega (arith, c.leg_at-leg.ensures.start)) f ∙ loop.invariant.1.1))
+    let chained = c.requires.chained past.0 in
+    let next = next_on chained past within in
+    let leg = c.leg_no in
+    let late : leg.result.start.0 < args.t.0 = grind (arith, common_steps) in
+    let jump = farther_jump args.legs.now fit loop.j args.t.0 _ _ on within next (jump_on chained past within) c.farther-j.ensures in (
+      jump.most,
+      (
+        λ one. (past.0, omega (arith, jump.later one, past.1)),
+        farther_onward args.legs.now fit loop.j args.t.0 _ _ on within next (jump_on chained past within) (rw leg.ensures.is at late) c.farther-j.ensures ∙ loop.invariant.1.1,
+      ),
+    )

@@ -1,14 +1,10 @@
 -- The loop: the legs from k on are taken.
-use Prim.Native.Nat.{◌-◌, ◌/◌, ◌≤◌}
+use Prim.Native.Nat.{◌-◌}
 use mathlib.Core.Path.{◌≡◌}
 use lib.ListN.{length}
-use Rattle.rules.specs.Words.{things_from}
-use Rattle.passes.specs.Legs.{leg_at}
+use Rattle.passes.specs.Links.{legs_past}
 use Rattle.passes.specs.Reach.{reached_back}
 use Rattle.passes.proofs.reach.reach_back.Given as goal
 
-abbrev pub invariant-loop-k : goal.invariant-loop-k
-invariant-loop-k l = (l.k ≤ length l.legs / 4) × ((length l.out ≡ length l.initial.out) × (l.out ≡ reached_back (things_from (leg_at l.legs) (length l.legs / 4 - l.k) l.k) l.initial.out))
-
-abbrev pub decreases-loop-k : goal.decreases-loop-k
-decreases-loop-k l = l.k
+abbrev pub invariant-loop-leg : goal.invariant-loop-leg
+invariant-loop-leg l = l.out ≡ reached_back (legs_past l.legs (length l.legs - length l.yielded)) l.initial.out
