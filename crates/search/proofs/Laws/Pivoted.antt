@@ -1,6 +1,6 @@
 -- The numbers of the pivots tell the bounds under them, and which sources they join to a target.
-use Rattle.std.specs.Prelude.{ℕ, zero, suc, ◌-◌, ◌≤◌, ◌<◌, ◌≡◌, ◌≢◌, ◌⊎◌, Bool, not, ◌&&◌, ◌||◌, eqb, length, get_or, max, map, filter, fold, unwrap_or}
-use Rattle.std.specs.List.{list_any, reduce}
+use Rattle.std.specs.Prelude.{ℕ, zero, suc, ◌-◌, ◌≤◌, ◌<◌, ◌≡◌, ◌≢◌, ◌⊎◌, Bool, not, ◌&&◌, eqb, length, get_or, max, map, filter, fold, unwrap_or}
+use Rattle.std.specs.List.{reduce}
 use native.Mathlib.Omega.{arith}
 use Rattle.std.proofs.Math.Path.{refl, ap}
 use Rattle.std.proofs.Common.{sym, ◌∙◌, inl, inr, eqb-true, eq-eqb, ne_eqb}
@@ -36,6 +36,7 @@ use Rattle.search.proofs.Laws.Pairs.{from_pivot, under_of, pivot_bound_of, onwar
 use Rattle.search.specs.Found.{ReachedJoined}
 use Rattle.search.proofs.Laws.Entered.{if_bound, bound_at, greater_assoc}
 use Rattle.search.proofs.Laws.Places.{things_before}
+use Rattle.search.proofs.Laws.Some.{some_yes, of_some}
 
 -- thing i of a list, as pivot i of the pivots
 pub pivot_at_lem : {A : Type 0} (xs : List A) (i : ℕ) → i < length xs → (x : A) × At xs i x
@@ -89,25 +90,6 @@ greatest_told v f (p ∷ ps) (x ∷ xs) e h = go (eqb y nowhere) refl (h 0 p x a
         → if_bound (unwrap_or (reduce max (cond (not t) (y ∷ rest) rest)) nowhere) ≡ greater (f p) (greatest_of f ps)
     go true k t r = rw (← t) r
     go false k t r = rw (← t) (greatest_with v f ps xs y (eqb-false y nowhere k) (omega arith) (λ i q z a c. h (suc i) q z (at_later a) (at_later c)))
-
--- a test that one of a list passes
-any_at : {A : Type 0} (test : A → Bool) (xs : List A) (i : ℕ) (x : A) → At xs i x → test x ≡ true → list_any test xs ≡ true
-any_at test [] i x m e = elim m [ ]
-any_at test (y ∷ xs) zero x at_first e = rw e
-any_at test (y ∷ xs) (suc i) x (at_later a) e = rw (any_at test xs i x a e) (or_true (test y))
-  where
-    or_true : (b : Bool) → b || true ≡ true
-    or_true true = refl
-    or_true false = refl
-
-at_any : {A : Type 0} (test : A → Bool) (xs : List A) → list_any test xs ≡ true → (i : ℕ) × (x : A) × At xs i x × (test x ≡ true)
-at_any test [] e = not_both e refl
-at_any {A} test (y ∷ xs) e = go (test y) refl e (at_any test xs)
-  where
-    go : (b : Bool) → test y ≡ b → b || list_any test xs ≡ true → (list_any test xs ≡ true → (i : ℕ) × (x : A) × At xs i x × (test x ≡ true))
-        → (i : ℕ) × (x : A) × At (y ∷ xs) i x × (test x ≡ true)
-    go true h k r = (0, y, at_first, h)
-    go false h k r = let t = r k in (suc t.0, t.1, at_later t.2, t.3)
 
 data Joining (onward into : ℕ) : Bool → Type 0 where
   it_joins : onward ≢ nowhere → into ≢ 0 → Joining onward into true
@@ -189,7 +171,7 @@ module _ (rs : List Row) (A W n : ℕ) (g : Good n rs) (aw : A ≤ W) (wh : W �
       joins_in j =
           let t = at_of j.listed in
           let x = pivot_at_lem list t.0 (omega (arith, laid.count, at_below t.1)) in
-          any_at (λ x. joinsb (get_or x.onward v 0) (get_or x.into u 0)) list t.0 x.0 x.1 (go t.0 x.0 t.1 x.1 (joining (get_or (x.0).onward v 0) (get_or (x.0).into u 0)))
+          some_yes (λ x. joinsb (get_or x.onward v 0) (get_or x.into u 0)) list t.0 x.0 x.1 (go t.0 x.0 t.1 x.1 (joining (get_or (x.0).onward v 0) (get_or (x.0).into u 0)))
         where
           p : Pivot
           p = j.pivot
@@ -205,7 +187,7 @@ module _ (rs : List Row) (A W n : ℕ) (g : Good n rs) (aw : A ≤ W) (wh : W �
       joined_out : joinedb list v u ≡ true → Joined (rows_day rs) A W pivots u v
       unfolding joinedb
       joined_out h =
-          let t = at_any (λ x. joinsb (get_or x.onward v 0) (get_or x.into u 0)) list h in
+          let t = of_some (λ x. joinsb (get_or x.onward v 0) (get_or x.into u 0)) list h in
           let q = pivot_at_lem pivots t.0 (omega (arith, laid.count, at_below t.2)) in
           joins_out t.0 q.0 t.1 q.1 t.2 t.3
 
