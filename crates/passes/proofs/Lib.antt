@@ -1,5 +1,4 @@
 pub mod Passing
-pub mod Timing
 pub mod Linking
 pub mod Sweeping
 pub mod Filling

@@ -39,6 +39,7 @@ impl LinkedLegs<'_> {
     }
 
     // The distances to the target from the first n stops.
+    #[tactic(auto, using(crate::proofs::Sweeping::head_small))]
     pub fn to_target(&self, target: u32, n: usize, out: &mut [u32])
         requires n_le_most_stops { n ≤ most_stops }
         requires n_in_bounds { n ≤ length out.old }
