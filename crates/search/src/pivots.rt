@@ -13,6 +13,14 @@ pub struct PivotNumbers {
     pub into: [u32; 256],
 }
 
+impl PivotNumbers {
+    // What a room for a pivot's numbers holds before they are laid out.
+    pub const BLANK: PivotNumbers = PivotNumbers {
+        onward: [0; 256],
+        into: [0; 256],
+    };
+}
+
 // The greatest bound of stop v over the pivots that reach it, or unreached.
 #[tactic(auto, unfolding(crate::specs::Pivots::bound_under))]
 fn bound_under(pivots: &[PivotNumbers], v: usize) -> u32
