@@ -1,25 +1,23 @@
 -- Laws of the bounds as legs are read one by one.
-use Prim.Native.Nat.{ℕ, ◌+◌, ◌*◌, ◌-◌, ◌≤◌, ◌<◌}
-use native.Mathlib.Omega.{arith}
-use mathlib.Core.Path.{◌≡◌, refl, ap, ◌∙◌}
-use mathlib.Core.List.{List, [], ◌∷◌, ◌++◌}
-use lib.ListN.{length, get_or, set, replicate, length-replicate, get_or-append}
+use Rattle.std.specs.Prelude.{ℕ, suc, ◌+◌, ◌≤◌, ◌<◌, ◌≡◌, refl, List, [], ◌∷◌, ◌++◌, length, get_or, set, replicate}
+use Rattle.std.proofs.Common.{arith, ap, ◌∙◌, add-one}
+use Rattle.std.proofs.lemmas.List.{length-replicate}
+use lib.ListN.{get_or-append}
 use lib.Seq.{set-append_left}
 use Rattle.rules.specs.Day.{Row, arrival, Sound}
 use Rattle.rules.specs.Faultless.{Good, good_more}
+use Rattle.passes.specs.declared.legs.Leg.{Leg}
 use Rattle.passes.specs.Forward.{nowhere}
-use Rattle.rules.specs.Words.{things_from}
-use Rattle.rules.proofs.Laws.Written.{things_more}
-use Rattle.passes.specs.Legs.{leg_width, leg_at}
+use Rattle.passes.specs.Legs.{no_leg, leg_at, legs_in}
+use Rattle.passes.specs.Links.{legs_past}
+use Rattle.passes.proofs.Laws.Links.{legs_past_more, legs_past_end}
 use Rattle.search.specs.Bounds.{later_of, entered, entered_by, bounds_of}
 use Rattle.search.proofs.Laws.Entered.{entered_length}
 
--- with j of m legs entered: the legs left give from here the bounds that all give
-pub record Entering (n : ℕ) (legs old : List ℕ) (m : ℕ) (out : List ℕ) (j : ℕ) : Type 0 where
-  pub turns : j ≤ m
-  pub long : length out ≡ length old
-  pub good : Good n (things_from (leg_at legs) (m - j) j)
-  pub leads : entered_by (things_from (leg_at legs) (m - j) j) out ≡ entered_by (things_from (leg_at legs) m 0) old
+-- with j legs entered: the legs left give from here the bounds that all give
+pub record Entering (n : ℕ) (legs : List Leg) (old out : List ℕ) (j : ℕ) : Type 0 where
+  pub good : Good n (legs_past legs j)
+  pub leads : entered_by (legs_past legs j) out ≡ entered_by (legs_in legs) old
 
 good_head : {n : ℕ} {q : Row} {qs : List Row} → Good n (q ∷ qs) → Sound n q
 good_head (good_more s up g) = s
@@ -27,39 +25,26 @@ good_head (good_more s up g) = s
 good_tail : {n : ℕ} {q : Row} {qs : List Row} → Good n (q ∷ qs) → Good n qs
 good_tail (good_more s up g) = g
 
--- a leg that takes time arrives at its fourth number
-entered_is : (legs : List ℕ) (j n : ℕ) (bs : List ℕ) → Sound n (leg_at legs j)
-    → set bs (get_or legs (j * leg_width + 1) 0) (later_of (get_or bs (get_or legs (j * leg_width + 1) 0) 0) (get_or legs (j * leg_width + 3) 0)) ≡ entered bs (leg_at legs j)
-unfolding entered
-entered_is legs j n bs s =
-    let e : get_or legs (j * leg_width + 3) 0 ≡ arrival (leg_at legs j) = omega (arith, s.travels) in
-    ap (λ (x : ℕ). set bs (get_or legs (j * leg_width + 1) 0) (later_of (get_or bs (get_or legs (j * leg_width + 1) 0) 0) x)) e
+module _ {n : ℕ} {legs : List Leg} {old out : List ℕ} {j : ℕ} (h : Entering n legs old out j) where
+  pub next_leg_sound : j < length legs → Sound n (leg_at legs j)
+  next_leg_sound l = good_head (rw (legs_past_more legs j l) at h.good)
 
-pub enter_none : (n : ℕ) (legs old : List ℕ) (m : ℕ) → Good n (things_from (leg_at legs) m 0) → Entering n legs old m old 0
-enter_none n legs old m g = let e : m - 0 ≡ m = omega arith in record { turns = omega arith; long = refl; good = rw e g; leads = rw e }
-
-module _ {n : ℕ} {legs old : List ℕ} {m : ℕ} {out : List ℕ} {j : ℕ} (h : Entering n legs old m out j) where
-  pub next_leg_sound : j < m → Sound n (leg_at legs j)
-  next_leg_sound l = good_head (rw (things_more (leg_at legs) m j l) at h.good)
-
-  pub enter_more : {out' : List ℕ} → j < m
-      → out' ≡ set out (get_or legs (j * leg_width + 1) 0) (later_of (get_or out (get_or legs (j * leg_width + 1) 0) 0) (get_or legs (j * leg_width + 3) 0))
-      → Entering n legs old m out' (j + 1)
-  unfolding entered_by
+  -- a leg that takes time arrives when its row does
+  pub enter_more : {out' : List ℕ} → j < length legs
+      → out' ≡ set out (get_or legs j no_leg).to (later_of (get_or out (get_or legs j no_leg).to 0) (get_or legs j no_leg).arrive.0) → Entering n legs old out' (j + 1)
+  unfolding entered_by entered
   enter_more {out'} l e =
-      record {
-        turns = omega arith;
-        long = ap length same ∙ (entered_length out (leg_at legs j) ∙ h.long);
-        good = good_tail (rw (things_more (leg_at legs) m j l) at h.good);
-        leads = ap (entered_by (things_from (leg_at legs) (m - (j + 1)) (j + 1))) same ∙ (rw (things_more (leg_at legs) m j l) at h.leads);
-      }
-    where
-      same : out' ≡ entered out (leg_at legs j)
-      same = e ∙ entered_is legs j n out (next_leg_sound l)
+      let at : (get_or legs j no_leg).arrive.0 ≡ arrival (leg_at legs j) = omega (arith, (next_leg_sound l).travels) in
+      let same : out' ≡ entered out (leg_at legs j) = e ∙ ap (λ (x : ℕ). set out (get_or legs j no_leg).to (later_of (get_or out (get_or legs j no_leg).to 0) x)) at in
+      rw (add-one j)
+      (record {
+        good = good_tail (rw (legs_past_more legs j l) at h.good);
+        leads = ap (entered_by (legs_past legs (suc j))) same ∙ (rw (legs_past_more legs j l) at h.leads);
+      })
 
-  pub enter_end : m ≤ j → out ≡ entered_by (things_from (leg_at legs) m 0) old
-  unfolding entered_by things_from
-  enter_end l = let e : m - j ≡ 0 = omega arith in rw e at h.leads
+  pub enter_end : length legs ≤ j → out ≡ entered_by (legs_in legs) old
+  unfolding entered_by
+  enter_end l = rw (legs_past_end legs j l) at h.leads
 
 entered_append : (bs t : List ℕ) (q : Row) → q.to < length bs → entered (bs ++ t) q ≡ entered bs q ++ t
 unfolding entered

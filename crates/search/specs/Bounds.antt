@@ -1,11 +1,11 @@
 -- The bounds of targets, as a fold over the legs. Place v holds v's bound, or nowhere.
-use Rattle.std.specs.Prelude.{ℕ, cond, List, [], ◌∷◌, ltb, eqb, get_or, set, replicate}
+use Rattle.std.specs.Prelude.{ℕ, max, cond, List, [], ◌∷◌, eqb, get_or, set, replicate}
 use Rattle.rules.specs.Day.{Row, arrival}
 use Rattle.passes.specs.Forward.{nowhere}
 
 -- the later of a bound, if there is one, and another arrival
 abbrev pub later_of : (bound arrive : ℕ) → ℕ
-later_of bound arrive = cond (eqb bound nowhere) arrive (cond (ltb bound arrive) arrive bound)
+later_of bound arrive = cond (eqb bound nowhere) arrive (max bound arrive)
 
 -- the bounds after one leg more
 unfoldable pub entered : List ℕ → Row → List ℕ

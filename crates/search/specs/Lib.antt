@@ -1,5 +1,4 @@
 -- What the contracts of `search` cite, and in `Laws` that the search finds what the rules say.
-pub mod Scan
 pub mod Farthest
 pub mod Bounds
 pub mod Targets

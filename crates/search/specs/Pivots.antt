@@ -1,71 +1,50 @@
--- Bounds under pivots, and the sources that pivots join to a target, from two lists of numbers: `onward` has for each pivot the
--- arrival at each stop from it, `into` for each pivot a number that is not 0 for each stop that reaches it in time.
-use Rattle.std.specs.Prelude.{ℕ, zero, suc, ◌+◌, ◌*◌, ◌<◌, ◌≡◌, ◌≢◌, Bool, true, false, cond, List, eqb, length, get_or}
+-- Bounds under pivots, and the sources that pivots join to a target, from the numbers of each pivot: `onward` has the arrival at each
+-- stop from it, `into` a number that is not 0 for each stop that reaches it in time.
+use Rattle.std.specs.Prelude.{ℕ, ◌≤◌, ◌<◌, ◌≡◌, Bool, not, ◌&&◌, cond, List, ◌++◌, eqb, length, get_or, drop, max, map, filter, unwrap_or}
+use Rattle.std.specs.List.{list_any, reduce}
 use Rattle.rules.specs.Words.{At, things_from}
 use Rattle.rules.specs.Pivots.{Pivot}
 use Rattle.passes.specs.Forward.{nowhere}
-use Rattle.search.specs.Bounds.{later_of}
-use Rattle.search.specs.Scan.{scan}
+use Rattle.search.specs.declared.pivots.PivotNumbers.{PivotNumbers}
 
--- the numbers of one pivot, and of all
-abbrev pub pivot_places : ℕ
-pivot_places = 256
+-- the first n numbers of each list are the pivot's own
+pub record Numbered (n : ℕ) (out back : List ℕ) (x : PivotNumbers) : Type 0 where
+  pub onward : (v : ℕ) → v < n → get_or x.onward v 0 ≡ get_or out v 0
+  pub into : (u : ℕ) → u < n → get_or x.into u 0 ≡ get_or back u 0
 
-abbrev pub all_places : ℕ
-all_places = 4096
+-- the list has for each pivot the numbers that are its own
+pub record LaidOut (n : ℕ) (pivots : List Pivot) (onward into : Pivot → List ℕ) (list : List PivotNumbers) : Type 0 where
+  pub count : length list ≡ length pivots
+  pub each : (i : ℕ) (p : Pivot) (x : PivotNumbers) → At pivots i p → At list i x → Numbered n (onward p) (into p) x
 
--- the number of stop v for pivot i
-abbrev pub pivot_number : List ℕ → (i v : ℕ) → ℕ
-pivot_number list i v = get_or list (i * pivot_places + v) 0
+-- a pivot's own numbers put first, and the places past them kept
+abbrev pub numbers_over : (n : ℕ) (onward into : List ℕ) → PivotNumbers → PivotNumbers
+numbers_over n onward into x = record { onward = onward ++ drop n x.onward; into = into ++ drop n x.into }
 
--- the list has for each pivot, at its places, the numbers that are its own
-pub record LaidOut (n : ℕ) (pivots : List Pivot) (numbers : Pivot → List ℕ) (list : List ℕ) : Type 0 where
-  pub each : (i : ℕ) (p : Pivot) → At pivots i p → (v : ℕ) → v < n → pivot_number list i v ≡ get_or (numbers p) v 0
-
--- the places that belong to none of `count` pivots are kept
-pub record Apart (n count : ℕ) (old new : List ℕ) : Type 0 where
+-- the numbers of all pivots were laid out at the front of a list, and the rest of it is kept
+pub record PivotsLaid (n : ℕ) (pivots : List Pivot) (onward into : Pivot → List ℕ) (old new : List PivotNumbers) : Type 0 where
   pub same_length : length new ≡ length old
-  pub kept : (j : ℕ) → ((i v : ℕ) → i < count → v < n → j ≢ i * pivot_places + v) → get_or new j 0 ≡ get_or old j 0
+  pub laid : (i : ℕ) (p : Pivot) (x : PivotNumbers) → At pivots i p → At old i x → At new i (numbers_over n (onward p) (into p) x)
+  pub kept : (i : ℕ) (x : PivotNumbers) → length pivots ≤ i → At old i x → At new i x
 
--- the numbers of all pivots were laid out in a list, and the rest of it is kept
-pub record PivotsLaid (n : ℕ) (pivots : List Pivot) (numbers : Pivot → List ℕ) (old new : List ℕ) : Type 0 where
-  pub laid : LaidOut n pivots numbers new
-  pub apart : Apart n (length pivots) old new
+-- the greatest bound of v over the pivots that reach it, or nowhere
+unfoldable pub bound_under : List PivotNumbers → (v : ℕ) → ℕ
+bound_under pivots v = unwrap_or (reduce max (filter (λ x. not (eqb x nowhere)) (map (λ p. get_or p.onward v 0) pivots))) nowhere
 
--- the later of a bound and the number under one pivot more, where that pivot reaches the stop
-unfoldable pub with_pivot : (bound number : ℕ) → ℕ
-with_pivot bound number = cond (eqb number nowhere) bound (later_of bound number)
-
--- one pivot more
-abbrev pub under_step : (onward : List ℕ) (v i : ℕ) → ℕ → ℕ
-under_step onward v i bound = with_pivot bound (pivot_number onward i v)
-
--- the greatest bound of v over the pivots that reach it
-unfoldable pub bound_under : (onward : List ℕ) (count v : ℕ) → ℕ
-bound_under onward count v = scan (under_step onward v) count 0 nowhere
-
-abbrev pub bounds_under : (onward : List ℕ) (count n : ℕ) → List ℕ
-bounds_under onward count n = things_from (bound_under onward count) n 0
-
--- whether the test holds of one of k places, from place i on
-unfoldable pub some_of : (ℕ → Bool) → (k i : ℕ) → Bool
-some_of test zero i = false
-some_of test (suc k) i = let rest = some_of test k (suc i) in cond (test i) true rest
+abbrev pub bounds_under : List PivotNumbers → (n : ℕ) → List ℕ
+bounds_under pivots n = things_from (bound_under pivots) n 0
 
 -- whether a pivot joins, by its number for the target and the source's number for it
-unfoldable pub joinsb : (onward into : ℕ) → Bool
-joinsb onward into = cond (eqb onward nowhere) false (cond (eqb into 0) false true)
+abbrev pub joinsb : (onward into : ℕ) → Bool
+joinsb onward into = not (eqb onward nowhere) && not (eqb into 0)
 
--- pivot i joins u to v
-abbrev pub joins_at : (onward into : List ℕ) (v u i : ℕ) → Bool
-joins_at onward into v u i = joinsb (pivot_number onward i v) (pivot_number into i u)
-
-unfoldable pub joinedb : (onward into : List ℕ) (count v u : ℕ) → Bool
-joinedb onward into count v u = some_of (joins_at onward into v u) count 0
+-- whether some pivot joins u to v
+unfoldable pub joinedb : List PivotNumbers → (v u : ℕ) → Bool
+joinedb pivots v u = list_any (λ x. joinsb (get_or x.onward v 0) (get_or x.into u 0)) pivots
 
 -- the distance from u to v where the pair is joined, else nowhere
-abbrev pub kept_at : (onward into : List ℕ) (count v : ℕ) (ds : List ℕ) (u : ℕ) → ℕ
-kept_at onward into count v ds u = cond (joinedb onward into count v u) (get_or ds u 0) nowhere
+abbrev pub kept_at : List PivotNumbers → (v : ℕ) (ds : List ℕ) (u : ℕ) → ℕ
+kept_at pivots v ds u = cond (joinedb pivots v u) (get_or ds u 0) nowhere
 
-abbrev pub kept_joined : (onward into : List ℕ) (count n v : ℕ) (ds : List ℕ) → List ℕ
-kept_joined onward into count n v ds = things_from (kept_at onward into count v ds) n 0
+abbrev pub kept_joined : List PivotNumbers → (n v : ℕ) (ds : List ℕ) → List ℕ
+kept_joined pivots n v ds = things_from (kept_at pivots v ds) n 0

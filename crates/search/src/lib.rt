@@ -9,6 +9,6 @@ mod targets;
 
 pub use entries::bounds;
 pub use far::{Far, farthest};
-pub use pivots::{PIVOT_PLACES, keep_joined, pivot_bounds};
+pub use pivots::{PivotNumbers, keep_joined, pivot_bounds};
 pub use state::Search;
-pub use targets::{Next, Place, next_target};
+pub use targets::{Place, next_target};

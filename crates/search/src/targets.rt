@@ -1,22 +1,16 @@
 // Targets by falling bound, then rising number, one at a time.
 ghost use Rattle.std.specs.Prelude.{◌≡◌, ◌≤◌, length};
 ghost use Rattle.rules.specs.Day.{most_stops};
-ghost use Rattle.search.specs.Targets.{before_all, afterb, chosen, next_in};
+ghost use Rattle.search.specs.Targets.{before_all, afterb, next_in};
 
 use passes::UNREACHED;
+use std::cmp::Reverse;
 
-// A stop with its bound.
-#[derive(Clone, Copy)]
+// A stop with its bound. The order of places is that of targets: by falling bound, then rising number.
+#[derive(Clone, Copy, PartialEq, Eq, PartialOrd, Ord)]
 pub struct Place {
-    pub bound: u32,
+    pub bound: Reverse<u32>,
     pub stop: u32,
-}
-
-// The next target, or the end of the targets.
-#[derive(Clone, Copy)]
-pub enum Next {
-    At(Place),
-    End,
 }
 
 impl Place {
@@ -25,60 +19,32 @@ impl Place {
         ensures { result ≡ before_all }
     {
         Place {
-            bound: UNREACHED,
+            bound: Reverse(UNREACHED),
             stop: 0,
         }
     }
 
     // Whether this is a target that comes after `last`. A stop that nothing enters is none.
+    #[tactic(auto, unfolding(crate::specs::Targets::afterb))]
     fn comes_after(self, last: Place) -> bool
         ensures { result ≡ afterb last self }
     {
-        if self.bound == UNREACHED {
-            return false;
-        }
-        if self.bound < last.bound {
-            return true;
-        }
-        if self.bound > last.bound {
-            return false;
-        }
-        last.stop < self.stop
-    }
-}
-
-impl Next {
-    // One stop more, of a higher number than those before.
-    fn with(self, place: Place, last: Place) -> Next
-        ensures { result ≡ chosen last place self }
-    {
-        if !place.comes_after(last) {
-            return self;
-        }
-        let Next::At(found) = self else {
-            return Next::At(place);
-        };
-        if place.bound <= found.bound {
-            return self;
-        }
-        Next::At(place)
+        self.bound.0 != UNREACHED && last < self
     }
 }
 
 // The first target after `last`, of n stops with their bounds.
-pub fn next_target(bounds: &[u32], n: usize, last: Place) -> Next
+#[tactic(auto, unfolding(crate::specs::Targets::next_in))]
+pub fn next_target(bounds: &[u32], n: usize, last: Place) -> Option<Place>
     requires { (n ≤ length bounds.now) × (n ≤ most_stops) }
     ensures { result ≡ next_in bounds.now last n }
 {
-    let mut next = Next::End;
-    let mut i: usize = 0;
-    while i < n {
-        let place = Place {
-            bound: bounds[i],
-            stop: i as u32,
-        };
-        next = next.with(place, last);
-        i += 1;
-    }
-    next
+    (0..n as u32)
+        .zip(bounds)
+        .map(|(stop, &bound)| Place {
+            bound: Reverse(bound),
+            stop,
+        })
+        .filter(|place| place.comes_after(last))
+        .min()
 }

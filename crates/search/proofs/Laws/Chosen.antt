@@ -1,18 +1,22 @@
--- The scan of the bounds finds the head of the targets that are left.
-use Rattle.std.specs.Prelude.{ℕ, suc, ◌≤◌, ◌<◌, ◌≡◌, ◌≢◌, ◌⊎◌, Bool, cond, List, eqb, leb, ltb, get_or}
+-- The next target is the head of the targets that are left.
+use Rattle.std.specs.Prelude.{ℕ, suc, ◌≤◌, ◌<◌, ◌≡◌, ◌≢◌, ◌⊎◌, Bool, not, ◌&&◌, cond, List, [], ◌∷◌, eqb, get_or, map, filter, fold, Option, Some, None}
+use Rattle.std.specs.List.{range_with_len, reduce}
+use Rattle.std.specs.declared.cmp.Ordering.{Ordering}
+use Rattle.std.specs.declared.cmp.Ordering.TheVariants.{Less, Equal, Greater}
+use Rattle.std.specs.Ordering.{MatchOrdering, nat_cmp, ordering_then, is_lt, min_by_ordering}
+use Rattle.std.specs.Cmp.{ranks}
 use Rattle.std.proofs.Math.Path.{refl}
-use Rattle.std.proofs.Common.{sym, ◌∙◌, subst, inl, inr, arith, leb-true, leb-false, ltb-true, ltb-false, lt-ltb, le-ltb, ne_eqb}
+use Rattle.std.proofs.Common.{sym, ◌∙◌, subst, inl, inr, arith, ne_eqb}
 use Rattle.std.proofs.Math.Bool.{true, false}
 use Rattle.std.proofs.Math.Option.{some}
-use Rattle.std.proofs.Math.Decide.{ℕ_discrete, dec_lt}
+use Rattle.std.proofs.Math.Decide.{ℕ_discrete}
 use Rattle.std.proofs.lemmas.Bool.{eqb-false}
+use Rattle.std.proofs.lemmas.List.Folds.{fold-map}
 use Rattle.rules.specs.Diameter.{Before, bound_falls, number_rises}
 use Rattle.rules.proofs.Laws.Order as order
 use Rattle.passes.specs.Forward.{nowhere}
 use Rattle.search.specs.declared.targets.Place.{Place}
-use Rattle.search.specs.declared.targets.Next.{Next}
-use Rattle.search.specs.declared.targets.Next.TheVariants.{At, End}
-use Rattle.search.specs.Targets.{afterb, better, chosen, place_in, next_step, next_in}
+use Rattle.search.specs.Targets.{in_order, afterb, first_of, place_in, next_in}
 use Rattle.search.proofs.Laws.Scan.{scan_keeps}
 use Rattle.search.proofs.Laws.Greatest.{some_same, not_both, each_suc}
 use Rattle.search.proofs.Laws.Entered.{bound_at, bound_at_lem}
@@ -23,51 +27,99 @@ BoundIn n bs v b = (v < n) × (bound_at bs v ≡ some b)
 
 -- in the order, stop v with the bound b comes after `last`
 abbrev pub After : (last : Place) (v b : ℕ) → Type 0
-After last v b = (b < last.bound) ⊎ ((b ≡ last.bound) × (last.stop < v))
+After last v b = (b < last.bound.0) ⊎ ((b ≡ last.bound.0) × (last.stop < v))
 
 -- the targets that are left after `last`
 abbrev pub Left : (n : ℕ) (bs : List ℕ) (last : Place) (v : ℕ) → Type 0
 Left n bs last v = (b : ℕ) → BoundIn n bs v b → After last v b
 
-after_yes : (last p : Place) → afterb last p ≡ true → (p.bound ≢ nowhere) × After last p.stop p.bound
-unfolding afterb
-after_yes last p h = go (eqb p.bound nowhere) (ltb p.bound last.bound) (ltb last.bound p.bound) refl refl refl h
-  where
-    go : (a b c : Bool) → eqb p.bound nowhere ≡ a → ltb p.bound last.bound ≡ b → ltb last.bound p.bound ≡ c
-        → cond a false (cond b true (cond c false (ltb last.stop p.stop))) ≡ true → (p.bound ≢ nowhere) × After last p.stop p.bound
-    go true b c e f i k = not_both k refl
-    go false true c e f i k = (eqb-false _ _ e, inl (ltb-true _ _ f))
-    go false false true e f i k = not_both k refl
-    go false false false e f i k =
-        (eqb-false _ _ e, inr (omega (arith, ltb-false p.bound last.bound f, ltb-false last.bound p.bound i), ltb-true _ _ k))
+-- what the order of two places says of their numbers
+abbrev Ordered : (p q : Place) → Ordering → Type 0
+Ordered p q o = MatchOrdering o (After p q.stop q.bound.0) ((p.bound.0 ≡ q.bound.0) × (p.stop ≡ q.stop)) (After q p.stop p.bound.0)
 
-yes_after : (last p : Place) → p.bound ≢ nowhere → After last p.stop p.bound → afterb last p ≡ true
+ordered : (p q : Place) → Ordered p q (in_order p q)
+ordered p q = go (nat_cmp q.bound.0 p.bound.0) (nat_cmp p.stop q.stop) (ranks q.bound.0 p.bound.0) (ranks p.stop q.stop)
+  where
+    go : (o r : Ordering) → MatchOrdering o (q.bound.0 < p.bound.0) (q.bound.0 ≡ p.bound.0) (p.bound.0 < q.bound.0)
+        → MatchOrdering r (p.stop < q.stop) (p.stop ≡ q.stop) (q.stop < p.stop) → Ordered p q (ordering_then o r)
+    go Less r l m = inl l
+    go Greater r l m = inl l
+    go Equal Less l m = inr (l, m)
+    go Equal Equal l m = (sym l, m)
+    go Equal Greater l m = inr (sym l, m)
+
+after_yes : (last p : Place) → afterb last p ≡ true → (p.bound.0 ≢ nowhere) × After last p.stop p.bound.0
 unfolding afterb
-yes_after last p ne (inl l) = rw (ne_eqb p.bound nowhere ne, lt-ltb p.bound last.bound l)
-yes_after last p ne (inr l) =
-    rw (ne_eqb p.bound nowhere ne, le-ltb p.bound last.bound (omega arith), le-ltb last.bound p.bound (omega arith), lt-ltb last.stop p.stop l.1)
+after_yes last p h = go (eqb p.bound.0 nowhere) (in_order last p) refl (ordered last p) h
+  where
+    go : (a : Bool) (o : Ordering) → eqb p.bound.0 nowhere ≡ a → Ordered last p o → not a && is_lt o ≡ true → (p.bound.0 ≢ nowhere) × After last p.stop p.bound.0
+    go true o e m k = not_both k refl
+    go false Less e m k = (eqb-false _ _ e, m)
+    go false Equal e m k = not_both k refl
+    go false Greater e m k = not_both k refl
+
+yes_after : (last p : Place) → p.bound.0 ≢ nowhere → After last p.stop p.bound.0 → afterb last p ≡ true
+unfolding afterb
+yes_after last p ne h = rw (ne_eqb p.bound.0 nowhere ne) (go (in_order last p) (ordered last p) h)
+  where
+    go : (o : Ordering) → Ordered last p o → After last p.stop p.bound.0 → is_lt o ≡ true
+    go Less m k = refl
+    go Equal m (inl x) = absurd (omega (arith, m.0))
+    go Equal m (inr x) = absurd (omega (arith, m.1))
+    go Greater (inl y) (inl x) = absurd (omega arith)
+    go Greater (inl y) (inr x) = absurd (omega arith)
+    go Greater (inr y) (inl x) = absurd (omega arith)
+    go Greater (inr y) (inr x) = absurd (omega arith)
+
+-- one place more
+abbrev better : Place → Option Place → Option Place
+better p None = Some p
+better p (Some q) = Some (first_of q p)
+
+unfoldable chosen : (last : Place) → Option Place → Place → Option Place
+chosen last x p = cond (afterb last p) (better p x) x
 
 -- what the scan knows of the stops below k
-abbrev Over : (bs : List ℕ) (last : Place) (k : ℕ) → Next → Type 0
-Over bs last k End = (v : ℕ) → v < k → (b : ℕ) → bound_at bs v ≡ some b → After last v b → ⊥
-Over bs last k (At p) =
-    (p.stop < k) × (bound_at bs p.stop ≡ some p.bound) × After last p.stop p.bound
-    × ((v : ℕ) → v < k → (b : ℕ) → bound_at bs v ≡ some b → After last v b → (b < p.bound) ⊎ ((b ≡ p.bound) × (p.stop ≤ v)))
+abbrev Over : (bs : List ℕ) (last : Place) (k : ℕ) → Option Place → Type 0
+Over bs last k None = (v : ℕ) → v < k → (b : ℕ) → bound_at bs v ≡ some b → After last v b → ⊥
+Over bs last k (Some p) =
+    (p.stop < k) × (bound_at bs p.stop ≡ some p.bound.0) × After last p.stop p.bound.0
+    × ((v : ℕ) → v < k → (b : ℕ) → bound_at bs v ≡ some b → After last v b → (b < p.bound.0) ⊎ ((b ≡ p.bound.0) × (p.stop ≤ v)))
+
+-- chosen one after another, they come to the first of those that come after `last`
+abbrev first_from : Option Place → List Place → Option Place
+first_from None ps = reduce first_of ps
+first_from (Some p) ps = Some (fold first_of p ps)
+
+chosen_first : (last : Place) (x : Option Place) (ps : List Place) → fold (chosen last) x ps ≡ first_from x (filter (afterb last) ps)
+unfolding chosen
+chosen_first last None [] = refl
+chosen_first last (Some p) [] = refl
+chosen_first last x (p ∷ ps) = go (afterb last p) (λ y. chosen_first last y ps)
+  where
+    more : (y : Option Place) (qs : List Place) → first_from (better p y) qs ≡ first_from y (p ∷ qs)
+    more None qs = refl
+    more (Some q) qs = refl
+
+    go : (c : Bool) → ((y : Option Place) → fold (chosen last) y ps ≡ first_from y (filter (afterb last) ps))
+        → fold (chosen last) (cond c (better p x) x) ps ≡ first_from x (cond c (p ∷ filter (afterb last) ps) (filter (afterb last) ps))
+    go true r = r (better p x) ∙ more x (filter (afterb last) ps)
+    go false r = r x
 
 module _ (bs : List ℕ) (last : Place) where
-  over_skip : (k : ℕ) (x : Next) → Over bs last k x → afterb last (place_in bs k) ≡ false → Over bs last (suc k) x
-  over_skip k End o skip =
+  over_skip : (k : ℕ) (x : Option Place) → Over bs last k x → afterb last (place_in bs k) ≡ false → Over bs last (suc k) x
+  over_skip k None o skip =
       each_suc (λ v. (b : ℕ) → bound_at bs v ≡ some b → After last v b → ⊥) k
       (λ b e a. let t = (bound_at_lem bs k b).0 e in not_both (yes_after last (place_in bs k) (λ z. t.1 (sym t.0 ∙ z)) (rw t.0 a)) skip) o
-  over_skip k (At p) o skip = (
+  over_skip k (Some p) o skip = (
     omega (arith, o.0),
     o.1,
     o.2,
-    each_suc (λ v. (b : ℕ) → bound_at bs v ≡ some b → After last v b → (b < p.bound) ⊎ ((b ≡ p.bound) × (p.stop ≤ v))) k
+    each_suc (λ v. (b : ℕ) → bound_at bs v ≡ some b → After last v b → (b < p.bound.0) ⊎ ((b ≡ p.bound.0) × (p.stop ≤ v))) k
         (λ b e a. let t = (bound_at_lem bs k b).0 e in not_both (yes_after last (place_in bs k) (λ z. t.1 (sym t.0 ∙ z)) (rw t.0 a)) skip) o.3,
   )
 
-  over_better : (k : ℕ) (x : Next) → Over bs last k x → afterb last (place_in bs k) ≡ true → Over bs last (suc k) (better (place_in bs k) x)
+  over_better : (k : ℕ) (x : Option Place) → Over bs last k x → afterb last (place_in bs k) ≡ true → Over bs last (suc k) (better (place_in bs k) x)
   over_better k x o h = go x o
     where
       d : ℕ
@@ -82,40 +134,41 @@ module _ (bs : List ℕ) (last : Place) where
       same : (b : ℕ) → bound_at bs k ≡ some b → b ≡ d
       same b e = some_same e is_here
 
-      go : (x : Next) → Over bs last k x → Over bs last (suc k) (better (place_in bs k) x)
-      go End o = (
+      go : (x : Option Place) → Over bs last k x → Over bs last (suc k) (better (place_in bs k) x)
+      go None o = (
         omega arith,
         is_here,
         yes_here.1,
         each_suc (λ v. (b : ℕ) → bound_at bs v ≡ some b → After last v b → (b < d) ⊎ ((b ≡ d) × (k ≤ v))) k (λ b e a. inr (same b e, omega arith)) (λ v l b e a. absurd (o v l b e a)),
       )
-      go (At p) o = pick (leb d p.bound) refl
+      go (Some p) o = pick (in_order p (place_in bs k)) (ordered p (place_in bs k))
         where
-          lower : (v b : ℕ) → p.bound < d → (b < p.bound) ⊎ ((b ≡ p.bound) × (p.stop ≤ v)) → (b < d) ⊎ ((b ≡ d) × (k ≤ v))
+          lower : (v b : ℕ) → p.bound.0 < d → (b < p.bound.0) ⊎ ((b ≡ p.bound.0) × (p.stop ≤ v)) → (b < d) ⊎ ((b ≡ d) × (k ≤ v))
           lower v b l (inl m) = inl (omega arith)
           lower v b l (inr m) = inl (omega arith)
 
-          held : (b : ℕ) → b ≡ d → d ≤ p.bound → Dec (d < p.bound) → (b < p.bound) ⊎ ((b ≡ p.bound) × (p.stop ≤ k))
-          held b e l (yes m) = inl (omega arith)
-          held b e l (no m) = inr (omega arith, omega (arith, o.0))
+          held : (b : ℕ) → b ≡ d → After p k d → (b < p.bound.0) ⊎ ((b ≡ p.bound.0) × (p.stop ≤ k))
+          held b e (inl m) = inl (omega arith)
+          held b e (inr m) = inr (e ∙ m.0, omega (arith, m.1))
 
-          pick : (c : Bool) → leb d p.bound ≡ c → Over bs last (suc k) (cond c (At p) (At (place_in bs k)))
-          pick true e = (
+          pick : (c : Ordering) → Ordered p (place_in bs k) c → Over bs last (suc k) (Some (min_by_ordering c p (place_in bs k)))
+          pick Less m = (
             omega (arith, o.0),
             o.1,
             o.2,
-            each_suc (λ v. (b : ℕ) → bound_at bs v ≡ some b → After last v b → (b < p.bound) ⊎ ((b ≡ p.bound) × (p.stop ≤ v))) k
-                (λ b i a. held b (same b i) (leb-true _ _ e) (dec_lt d p.bound)) o.3,
+            each_suc (λ v. (b : ℕ) → bound_at bs v ≡ some b → After last v b → (b < p.bound.0) ⊎ ((b ≡ p.bound.0) × (p.stop ≤ v))) k (λ b i a. held b (same b i) m) o.3,
           )
-          pick false e = (
+          pick Equal m = absurd (omega (arith, o.0, m.1))
+          pick Greater (inl m) = (
             omega arith,
             is_here,
             yes_here.1,
             each_suc (λ v. (b : ℕ) → bound_at bs v ≡ some b → After last v b → (b < d) ⊎ ((b ≡ d) × (k ≤ v))) k (λ b i a. inr (same b i, omega arith))
-                (λ v l b i a. lower v b (leb-false _ _ e) (o.3 v l b i a)),
+                (λ v l b i a. lower v b m (o.3 v l b i a)),
           )
+          pick Greater (inr m) = absurd (omega (arith, o.0, m.1))
 
-  over_step : (k : ℕ) (x : Next) → Over bs last k x → Over bs last (suc k) (chosen last (place_in bs k) x)
+  over_step : (k : ℕ) (x : Option Place) → Over bs last k x → Over bs last (suc k) (chosen last x (place_in bs k))
   unfolding chosen
   over_step k x o = go (afterb last (place_in bs k)) refl
     where
@@ -126,33 +179,35 @@ module _ (bs : List ℕ) (last : Place) where
   module _ (n : ℕ) where
     scanned : Over bs last n (next_in bs last n)
     unfolding next_in
-    scanned = scan_keeps (Over bs last) (next_step bs last) over_step n n 0 End (omega arith) (λ v l b e a. omega arith)
+    scanned =
+        subst (Over bs last n) (sym (fold-map (chosen last) (place_in bs) None (range_with_len 0 n)) ∙ chosen_first last None (map (place_in bs) (range_with_len 0 n)))
+        (scan_keeps (Over bs last) (λ x j. chosen last x (place_in bs j)) over_step n n 0 None (omega arith) (λ v l b e a. omega arith))
 
     -- at the end no target is left
-    pub none_is_left : next_in bs last n ≡ End → (v : ℕ) → Left n bs last v → (b : ℕ) × BoundIn n bs v b → ⊥
-    none_is_left e v l h = let o : Over bs last n End = subst (Over bs last n) e scanned in o v h.1.0 h.0 h.1.1 (l h.0 h.1)
+    pub none_is_left : next_in bs last n ≡ None → (v : ℕ) → Left n bs last v → (b : ℕ) × BoundIn n bs v b → ⊥
+    none_is_left e v l h = let o : Over bs last n None = subst (Over bs last n) e scanned in o v h.1.0 h.0 h.1.1 (l h.0 h.1)
 
-    module _ (p : Place) (found : next_in bs last n ≡ At p) where
-      over : Over bs last n (At p)
+    module _ (p : Place) (found : next_in bs last n ≡ Some p) where
+      over : Over bs last n (Some p)
       over = subst (Over bs last n) found scanned
 
       -- the next target is one of the stops, with its bound, after `last`
-      pub next_bound : BoundIn n bs p.stop p.bound
+      pub next_bound : BoundIn n bs p.stop p.bound.0
       next_bound = (over.0, over.1)
 
-      pub next_after : After last p.stop p.bound
+      pub next_after : After last p.stop p.bound.0
       next_after = over.2
 
       -- and it is the head of those that are left
       pub next_is_head : order.Next (BoundIn n bs) (Left n bs last) p.stop
       next_is_head =
           record {
-            left = λ b h. let e : p.bound ≡ b = some_same over.1 h.1 in subst (After last p.stop) e next_after;
-            bound = (p.bound, next_bound);
+            left = λ b h. let e : p.bound.0 ≡ b = some_same over.1 h.1 in subst (After last p.stop) e next_after;
+            bound = (p.bound.0, next_bound);
             others = λ w l h. go w h.0 h.1 (over.3 w h.1.0 h.0 h.1.1 (l h.0 h.1)) (ℕ_discrete w p.stop);
           }
         where
-          go : (w b : ℕ) → BoundIn n bs w b → (b < p.bound) ⊎ ((b ≡ p.bound) × (p.stop ≤ w)) → Dec (w ≡ p.stop) → (w ≡ p.stop) ⊎ Before (BoundIn n bs) p.stop w
+          go : (w b : ℕ) → BoundIn n bs w b → (b < p.bound.0) ⊎ ((b ≡ p.bound.0) × (p.stop ≤ w)) → Dec (w ≡ p.stop) → (w ≡ p.stop) ⊎ Before (BoundIn n bs) p.stop w
           go w b h x (yes e) = inl e
-          go w b h (inl x) (no e) = inr (bound_falls {b = p.bound} {c = b} next_bound h x)
+          go w b h (inl x) (no e) = inr (bound_falls {b = p.bound.0} {c = b} next_bound h x)
           go w b h (inr x) (no e) = inr (number_rises {b = b} (rw x.0 next_bound) h (omega arith))

@@ -1,6 +1,6 @@
 -- The fold over the legs gives the bounds.
-use Rattle.std.specs.Prelude.{ℕ, zero, suc, ◌+◌, ◌-◌, ◌≤◌, ◌<◌, ◌≡◌, refl, ◌≢◌, ◌↔◌, Bool, true, false, cond, ◌&&◌, List, [], ◌∷◌, ◌++◌, eqb, leb, ltb, length, get_or, set, replicate}
-use Rattle.std.proofs.Common.{ap, sym, ◌∙◌, arith, length-set, get_or-set_same, get_or-set_other, eq-eqb, ne_eqb, leb-true, ltb-true, ltb-false}
+use Rattle.std.specs.Prelude.{ℕ, zero, suc, ◌+◌, ◌-◌, ◌≤◌, ◌<◌, max, ◌≡◌, refl, ◌≢◌, ◌↔◌, Bool, true, false, cond, ◌&&◌, List, [], ◌∷◌, ◌++◌, eqb, leb, length, get_or, set, replicate}
+use Rattle.std.proofs.Common.{ap, sym, ◌∙◌, arith, length-set, get_or-set_same, get_or-set_other, eq-eqb, ne_eqb, leb-true}
 use Rattle.std.proofs.Math.Option.{Option, none, some}
 use Rattle.std.proofs.Math.Decide.{ℕ_discrete}
 use Rattle.std.proofs.lemmas.List.{length-replicate}
@@ -54,12 +54,11 @@ greater_assoc (some x) (some y) none = refl
 greater_assoc (some x) (some y) (some z) = ap some (omega arith)
 
 pub later_bound : (old a : ℕ) → a ≢ nowhere → if_bound (later_of old a) ≡ greater (if_bound old) (some a)
-later_bound old a ne = go (eqb old nowhere) (ltb old a) refl refl
+later_bound old a ne = go (eqb old nowhere) refl
   where
-    go : (t s : Bool) → eqb old nowhere ≡ t → ltb old a ≡ s → if_bound (cond t a (cond s a old)) ≡ greater (cond t none (some old)) (some a)
-    go true s e f = rw (ne_eqb a nowhere ne)
-    go false true e f = rw (ne_eqb a nowhere ne) (ap some (omega (arith, ltb-true old a f)))
-    go false false e f = rw e (ap some (omega (arith, ltb-false old a f)))
+    go : (t : Bool) → eqb old nowhere ≡ t → if_bound (cond t a (max old a)) ≡ greater (cond t none (some old)) (some a)
+    go true e = rw (ne_eqb a nowhere ne)
+    go false e = rw (ne_eqb (max old a) nowhere (omega (arith, ne, eqb-false old nowhere e)))
 
 entered_at : (bs : List ℕ) (q : Row) (v : ℕ) → q.to < length bs → arrival q ≢ nowhere → bound_at (entered bs q) v ≡ greater (bound_at bs v) (into v q)
 unfolding bound_at entered

@@ -1,6 +1,6 @@
 -- The scan of the distances to a target finds its farthest source.
-use Rattle.std.specs.Prelude.{ℕ, suc, ◌≤◌, ◌<◌, ◌≡◌, refl, ◌≢◌, ◌⊎◌, Bool, true, false, cond, List, eqb, leb, get_or}
-use Rattle.std.proofs.Common.{ap, sym, ◌∙◌, subst, inl, inr, arith, eqb-true, leb-true, leb-false}
+use Rattle.std.specs.Prelude.{ℕ, suc, ◌≤◌, ◌<◌, ◌≡◌, refl, ◌≢◌, ◌⊎◌, Bool, true, false, not, ◌&&◌, cond, List, eqb, ltb, get_or}
+use Rattle.std.proofs.Common.{ap, sym, ◌∙◌, subst, inl, inr, arith, eqb-true, ltb-true, ltb-false}
 use Rattle.std.proofs.lemmas.Bool.{eqb-false}
 use Rattle.rules.specs.Clock.{horizon}
 use Rattle.rules.specs.Day.{Day}
@@ -45,26 +45,26 @@ module _ (ds : List ℕ) (v : ℕ) where
       }
 
   over_step : (k : ℕ) (x : Far) → Over ds v k x → Over ds v (suc k) (farther v k (get_or ds k 0) x)
-  over_step k x o = go (eqb k v) (eqb d nowhere) (leb d x.value) refl refl refl
+  over_step k x o = go (eqb k v) (eqb d nowhere) (ltb x.value d) refl refl refl
     where
       d : ℕ
       d = get_or ds k 0
 
-      go : (a b c : Bool) → eqb k v ≡ a → eqb d nowhere ≡ b → leb d x.value ≡ c
-          → Over ds v (suc k) (cond a x (cond b x (cond c x (record { value = d; source = k }))))
+      go : (a b c : Bool) → eqb k v ≡ a → eqb d nowhere ≡ b → ltb x.value d ≡ c
+          → Over ds v (suc k) (cond (not a && not b && c) (record { value = d; source = k }) x)
       go true b c e f h = over_skip k x o (λ t. t.0 (eqb-true _ _ e))
       go false true c e f h = over_skip k x o (λ t. t.1 (eqb-true _ _ f))
-      go false false true e f h =
+      go false false false e f h =
           record {
-            most = each_suc (λ u. Counts ds v u → get_or ds u 0 ≤ x.value) k (λ t. leb-true _ _ h) o.most;
+            most = each_suc (λ u. Counts ds v u → get_or ds u 0 ≤ x.value) k (λ t. ltb-false _ _ h) o.most;
             real = λ z. let r = o.real z in (omega (arith, r.0), r.1, r.2);
             lowest = λ z. each_suc (λ u. Counts ds v u → get_or ds u 0 ≡ x.value → x.source ≤ u) k (λ t i. omega (arith, (o.real z).0)) (o.lowest z);
           }
-      go false false false e f h =
+      go false false true e f h =
           record {
-            most = each_suc (λ u. Counts ds v u → get_or ds u 0 ≤ d) k (λ t. omega arith) (λ u l t. omega (arith, o.most u l t, leb-false d x.value h));
+            most = each_suc (λ u. Counts ds v u → get_or ds u 0 ≤ d) k (λ t. omega arith) (λ u l t. omega (arith, o.most u l t, ltb-true x.value d h));
             real = λ z. (omega arith, (eqb-false _ _ e, eqb-false _ _ f), refl);
-            lowest = λ z. each_suc (λ u. Counts ds v u → get_or ds u 0 ≡ d → k ≤ u) k (λ t i. omega arith) (λ u l t i. absurd (omega (arith, o.most u l t, leb-false d x.value h)));
+            lowest = λ z. each_suc (λ u. Counts ds v u → get_or ds u 0 ≡ d → k ≤ u) k (λ t i. omega arith) (λ u l t i. absurd (omega (arith, o.most u l t, ltb-true x.value d h)));
           }
 
 pub farthest_is_far : {Pair : ℕ → ℕ → ℕ → Type 0} (n v : ℕ) (ds : List ℕ) → TellsSources Pair n v ds → ((u d : ℕ) → Pair u v d → 1 ≤ d)

@@ -1,6 +1,7 @@
 -- The search by next targets visits the targets in order, so its state at the end is right.
 use Prim.Native.Nat.{ℕ, zero, suc, ◌+◌, ◌-◌, ◌≤◌, ◌<◌}
-use Rattle.std.specs.Prelude.{◌≡◌, true, false}
+use Rattle.std.specs.Prelude.{◌≡◌, true, false, Option, Some, None}
+use Rattle.std.specs.Option.{option_map_or}
 use Rattle.std.proofs.Math.Path.{refl, ap, sym}
 use Rattle.std.proofs.Common.{◌∙◌, subst, inl, inr}
 use Rattle.std.proofs.Math.Bool.{cond}
@@ -19,11 +20,9 @@ use Rattle.passes.proofs.Laws.Chains.{spans}
 use Rattle.passes.specs.Days.{rows_day}
 use Rattle.search.specs.declared.far.Far.{Far}
 use Rattle.search.specs.declared.targets.Place.{Place}
-use Rattle.search.specs.declared.targets.Next.{Next}
-use Rattle.search.specs.declared.targets.Next.TheVariants.{At, End}
 use Rattle.search.specs.declared.state.Search.{Search}
 use Rattle.search.specs.Targets.{before_all, next_in}
-use Rattle.search.specs.Visits.{begun, visited, stops_at, on_next, searched}
+use Rattle.search.specs.Visits.{begun, visited, stops_at, searched}
 use Rattle.search.proofs.Laws.Greatest.{some_same}
 use Rattle.search.proofs.Laws.Order.{order, order_length, order_right, TellsBounds}
 use Rattle.search.proofs.Laws.Pairs.{pair_of, pairs_told, bound_of, bounds_told, joined_pair_of, joined_pairs_told, pivot_bound_of, pivot_bounds_told}
@@ -53,17 +52,17 @@ module _ {far : ℕ → Far} {bs : List ℕ} {n k : ℕ} {last : Place} {st : Se
     left : n - k ≡ suc (n - (k + 1))
     left = omega arith
 
-    pub targets_over : next_in bs last n ≡ End → searched far bs n n before_all begun ≡ st
+    pub targets_over : next_in bs last n ≡ None → searched far bs n n before_all begun ≡ st
     unfolding searched
     targets_over x = sym going.leads ∙ rw (left, x)
 
-    module _ (p : Place) (x : next_in bs last n ≡ At p) where
-      pub stops_there : stops_at p.bound st.best ≡ true → searched far bs n n before_all begun ≡ st
+    module _ (p : Place) (x : next_in bs last n ≡ Some p) where
+      pub stops_there : stops_at p.bound.0 st.best ≡ true → searched far bs n n before_all begun ≡ st
       unfolding searched
       stops_there h = sym going.leads ∙ rw (left, x, h)
 
       -- with the farthest source itself
-      pub going_visit : stops_at p.bound st.best ≡ false → Going far bs n (k + 1) p (visited p.stop (far p.stop) st)
+      pub going_visit : stops_at p.bound.0 st.best ≡ false → Going far bs n (k + 1) p (visited p.stop (far p.stop) st)
       unfolding searched
       going_visit h =
           record {
@@ -76,7 +75,7 @@ module _ {far : ℕ → Far} {bs : List ℕ} {n k : ℕ} {last : Place} {st : Se
           visits_so = rw (left, x, h)
 
       -- with any farthest source of the target
-      pub going_on : {Pair : ℕ → ℕ → ℕ → Type 0} (y : Far) → stops_at p.bound st.best ≡ false → IsFar Pair p.stop (far p.stop) → IsFar Pair p.stop y
+      pub going_on : {Pair : ℕ → ℕ → ℕ → Type 0} (y : Far) → stops_at p.bound.0 st.best ≡ false → IsFar Pair p.stop (far p.stop) → IsFar Pair p.stop y
           → Going far bs n (k + 1) p (visited p.stop y st)
       unfolding searched
       going_on y h f g =
@@ -89,7 +88,7 @@ module _ {far : ℕ → Far} {bs : List ℕ} {n k : ℕ} {last : Place} {st : Se
           visits_same : searched far bs n (n - k) last st ≡ searched far bs n (n - (k + 1)) p (visited p.stop y st)
           visits_same = rw (left, x, h, visit_same p.stop (far p.stop) y st f g)
 
-pub next_below : (bs : List ℕ) (last : Place) (n : ℕ) (p : Place) → next_in bs last n ≡ At p → p.stop < n
+pub next_below : (bs : List ℕ) (last : Place) (n : ℕ) (p : Place) → next_in bs last n ≡ Some p → p.stop < n
 next_below bs last n p e = (next_bound bs last n p e).0
 
 -- the search is a run over the targets in order
@@ -108,7 +107,7 @@ rest_iff L M vs f g r =
       );
     }
 
-after_after : (last p : Place) (w c : ℕ) → After last p.stop p.bound → After p w c → After last w c
+after_after : (last p : Place) (w c : ℕ) → After last p.stop p.bound.0 → After p w c → After last w c
 after_after last p w c (inl x) (inl y) = inl (omega arith)
 after_after last p w c (inl x) (inr y) = inl (omega arith)
 after_after last p w c (inr x) (inl y) = inl (omega arith)
@@ -116,16 +115,16 @@ after_after last p w c (inr x) (inr y) = inr (omega arith, omega arith)
 
 module _ (far : ℕ → Far) (bs : List ℕ) (n : ℕ) where
   -- those left after the next target are those left after `last` that go behind it
-  left_after : (last p : Place) → BoundIn n bs p.stop p.bound → After last p.stop p.bound → (ws : List ℕ)
+  left_after : (last p : Place) → BoundIn n bs p.stop p.bound.0 → After last p.stop p.bound.0 → (ws : List ℕ)
       → Rest (BoundIn n bs) (λ w. Left n bs last w × Before (BoundIn n bs) p.stop w) ws → Rest (BoundIn n bs) (Left n bs p) ws
   left_after last p here a ws = rest_iff (λ w. Left n bs last w × Before (BoundIn n bs) p.stop w) (Left n bs p) ws (λ w b h x c k. there w c k x.1) (λ w b h x. back w b h x)
     where
       there : (w c : ℕ) → BoundIn n bs w c → Before (BoundIn n bs) p.stop w → After p w c
-      there w c k (bound_falls {b = b} {c = d} x y l) = inl (omega (arith, one_bound n bs p.stop b p.bound x here, one_bound n bs w d c y k))
-      there w c k (number_rises {b = b} x y l) = inr (omega (arith, one_bound n bs p.stop b p.bound x here, one_bound n bs w b c y k), l)
+      there w c k (bound_falls {b = b} {c = d} x y l) = inl (omega (arith, one_bound n bs p.stop b p.bound.0 x here, one_bound n bs w d c y k))
+      there w c k (number_rises {b = b} x y l) = inr (omega (arith, one_bound n bs p.stop b p.bound.0 x here, one_bound n bs w b c y k), l)
 
       before : (w b : ℕ) → BoundIn n bs w b → After p w b → Before (BoundIn n bs) p.stop w
-      before w b h (inl l) = bound_falls {b = p.bound} {c = b} here h l
+      before w b h (inl l) = bound_falls {b = p.bound.0} {c = b} here h l
       before w b h (inr l) = number_rises {b = b} (rw l.0 here) h l.1
 
       back : (w b : ℕ) → BoundIn n bs w b → Left n bs p w → Left n bs last w × Before (BoundIn n bs) p.stop w
@@ -138,11 +137,11 @@ module _ (far : ℕ → Far) (bs : List ℕ) (n : ℕ) where
   searched_from zero (v ∷ vs) last st r l = absurd (omega arith)
   searched_from (suc k) vs last st r l = go (next_in bs last n) refl (λ ws p s. searched_from k ws p s)
     where
-      go : (x : Next) → next_in bs last n ≡ x
+      go : (x : Option Place) → next_in bs last n ≡ x
           → ((ws : List ℕ) (p : Place) (s : Search) → Rest (BoundIn n bs) (Left n bs p) ws → length ws ≤ k → searched far bs n k p s ≡ run (bound_at bs) far ws s)
-          → on_next x st (λ p. cond (stops_at p.bound st.best) st (searched far bs n k p (visited p.stop (far p.stop) st))) ≡ run (bound_at bs) far vs st
-      go End e rec = let z : vs ≡ [] = none_left vs r (none_is_left bs last n e) in rw z
-      go (At p) e rec =
+          → option_map_or (λ p. cond (stops_at p.bound.0 st.best) st (searched far bs n k p (visited p.stop (far p.stop) st))) x st ≡ run (bound_at bs) far vs st
+      go None e rec = let z : vs ≡ [] = none_left vs r (none_is_left bs last n e) in rw z
+      go (Some p) e rec =
           let h = next_left (one_bound n bs) p.stop vs (next_is_head bs last n p e) r in
           let ws : List ℕ = h.0 in
           let few : length vs ≡ suc (length ws) = ap length h.1 in

@@ -1,16 +1,12 @@
--- The loop: u places are filled, and the rest is as it was.
-use native.Mathlib.Omega.{arith}
-use mathlib.Core.Path.{◌≡◌, sym, ◌∙◌}
-use lib.ListN.{length-set}
-use Rattle.rules.proofs.Laws.Written.{length_things}
-use Rattle.passes.proofs.Filling.{fill_one, fill_end}
-use Rattle.search.proofs.Keeping.{fill_reads}
-use Rattle.search.proofs.Laws.Places.{things_at}
-use Rattle.search.specs.Pivots.{kept_at, kept_joined}
+-- The loop: a distance is overwritten, or stays.
+use Rattle.std.proofs.Common.{arith}
+use Rattle.std.proofs.lemmas.Grind.{common_steps}
+use Rattle.search.proofs.Keeping.{fill_one, fill_kept, fill_reads}
 use Rattle.search.proofs.pivots.keep_joined.Goals as goal
+use Rattle.search.proofs.pivots.keep_joined.Goals.{then-not-is_joined, else-not-is_joined}
 
 pub loop-u-preserved : goal.loop-u-preserved
-loop-u-preserved c = let args = c.args in let loop = c.loop-u in let f = kept_at args.onward.now args.into.now args.count args.target args.out.now in let long = length_things f args.n 0 in (omega arith, (length-set loop.out loop.u _ ∙ loop.invariant.1.0, fill_one (kept_joined args.onward.now args.into.now args.count args.n args.target args.out.now) args.out.now loop.u _ loop.out (omega (arith, long)) (omega arith) loop.invariant.1.1 (c.kept_if.ensures ∙ (rw (c.is_joined-joined.ensures, fill_reads (kept_joined args.onward.now args.into.now args.count args.n args.target args.out.now) args.out.now loop.u loop.out (omega (arith, long)) loop.invariant.1.1) (sym (things_at f args.n loop.u c.loop-u-test.true))))))
-
-pub returns : goal.returns
-returns c = let args = c.args in let loop = c.loop-u in let z : loop.u ≡ args.n = omega arith in fill_end (kept_joined args.onward.now args.into.now args.count args.n args.target args.out.now) args.out.now args.n loop.out (length_things (kept_at args.onward.now args.into.now args.count args.target args.out.now) args.n 0) (rw z at loop.invariant.1.1)
+loop-u-preserved c = elim c.if-not-is_joined.branch [
+  | then-not-is_joined w ↦ grind (arith, common_steps, fill_one)
+  | else-not-is_joined w ↦ grind (arith, common_steps, fill_kept, fill_reads)
+]
