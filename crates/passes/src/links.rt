@@ -39,7 +39,6 @@ fn farther(legs: &[Leg], near: u32, far: u32, t: Length) -> u32
 }
 
 // The first leg of a chain, from its leg k on, that starts at t or later.
-#[tactic(auto, using(crate::proofs::Laws::Links::onward_here))]
 fn first_from(legs: &[Leg], next: &[u32; 2049], jump: &[u32; 2049], k: u32, t: Length) -> u32
     requires orderly { Orderly legs.now }
     requires k_bound { k ≤ length legs.now }
@@ -48,7 +47,8 @@ fn first_from(legs: &[Leg], next: &[u32; 2049], jump: &[u32; 2049], k: u32, t: L
 {
     let mut j = k;
     while j > 0 {
-        if t <= leg_no(legs, j as usize).start {
+        let in_time = t <= leg_no(legs, j as usize).start;
+        if in_time {
             return j;
         }
         j = farther(legs, next[j as usize], jump[j as usize], t);

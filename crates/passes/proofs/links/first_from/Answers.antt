@@ -2,14 +2,14 @@
 use Prim.Native.Nat.{ℕ, ◌-◌, ◌%◌, ◌≤◌, ◌<◌}
 use native.Mathlib.Omega.{arith}
 use native.Mathlib.Decide.{dec_le}
-use mathlib.Core.Path.{◌≡◌, ◌∙◌}
+use mathlib.Core.Path.{◌≡◌, sym, ◌∙◌}
 use mathlib.Core.List.{List}
 use lib.ListN.{length, get_or}
 use Rattle.rules.specs.Day.{most_rows}
 use Rattle.std.proofs.lemmas.Grind.{common_steps}
 use Rattle.passes.specs.declared.legs.Leg.{Leg}
 use Rattle.passes.specs.Links.{link_places, leg_no, first_past, Jump, Chained}
-use Rattle.passes.proofs.Laws.Links.{farther_jump, farther_onward}
+use Rattle.passes.proofs.Laws.Links.{onward_here, farther_jump, farther_onward}
 use Rattle.passes.proofs.links.first_from.Goals as goal
 
 -- a jump leads closer to the end of the legs, and none is past it
@@ -27,6 +27,14 @@ module _ {list : List Leg} {next jump : List ℕ} {k j : ℕ} (chained : Chained
 
   jump_on : Jump list j (get_or jump j 0)
   jump_on = chained.jumps j (omega arith) within
+
+pub returns-then-in_time : goal.returns-then-in_time
+returns-then-in_time c =
+    let args = c.args in
+    let loop = c.loop-j in
+    let leg = c.leg_no in
+    let in_time : args.t.0 ≤ leg.result.start.0 = grind (arith, common_steps) in
+    sym (onward_here args.legs.now loop.j args.t.0 c.loop-j-test.true loop.invariant.0 (rw leg.ensures.is at in_time)) ∙ loop.invariant.1.1
 
 pub loop-j-smaller : goal.loop-j-smaller
 loop-j-smaller c =
