@@ -1,8 +1,7 @@
 -- Every line does something or is no frame, and every input has an output.
-use Rattle.std.specs.Prelude.{ℕ, suc, ◌*◌, ◌≤◌, ◌<◌, ◌≡◌, refl, ◌⊎◌, List, [], ◌∷◌, ◌++◌, length, get_or, replicate}
+use Rattle.std.specs.Prelude.{ℕ, Option, Some, None, suc, ◌*◌, ◌≤◌, ◌<◌, ◌≡◌, refl, ◌⊎◌, List, [], ◌∷◌, ◌++◌, length, get_or, replicate}
 use Rattle.std.proofs.Math.Decide.{dec_lt}
 use Rattle.std.proofs.Common.{subst, inl, inr, arith}
-use Rattle.std.proofs.Math.Option.{Option, none, some}
 use Rattle.std.proofs.lemmas.List.{length-replicate, get_or-replicate}
 use Rattle.std.proofs.Math.ListN.{get_or-eq_default}
 use Rattle.rules.specs.Day.{most_rows, row_width}
@@ -47,7 +46,7 @@ answered t n asker A W =
 
 -- what each kind of frame asks for
 
-pub first : {t t' : Known} {n : ℕ} {x : List ℕ} → Does t (frame.Stops n) t' x → t.stops ≡ none
+pub first : {t t' : Known} {n : ℕ} {x : List ℕ} → Does t (frame.Stops n) t' x → t.stops ≡ None
 first (stops e) = e
 
 pub room_for_row : {t t' : Known} {a b c d o : ℕ} {x : List ℕ} → Does t (frame.Row a b c d o) t' x → length t.rows < most_rows * row_width
@@ -64,14 +63,14 @@ is_frame (frame.Pivot p s) (pivot e r) = omega arith
 is_frame (frame.Ask x a w) (asks e r) = omega arith
 is_frame {t = t} frame.Nothing x'' = elim x'' [ ]
 
-later : {t t' : Known} {x : List ℕ} (f : Frame) → 2 ≤ type_of f → Does t f t' x → (n : ℕ) × (t.stops ≡ some n)
+later : {t t' : Known} {x : List ℕ} (f : Frame) → 2 ≤ type_of f → Does t f t' x → (n : ℕ) × (t.stops ≡ Some n)
 later (frame.Stops n) h (stops e) = absurd (omega arith)
 later (frame.Row a b c d o) h (row {n} e r) = (n, e)
 later (frame.Pivot p s) h (pivot {n} e r) = (n, e)
 later (frame.Ask x a w) h (asks {n} e r) = (n, e)
 later {t = t} frame.Nothing h _ = elim h [ ]
 
-pub only_first : {t t' : Known} {x : List ℕ} (f : Frame) → type_of f ≤ 1 → Does t f t' x → t.stops ≡ none
+pub only_first : {t t' : Known} {x : List ℕ} (f : Frame) → type_of f ≤ 1 → Does t f t' x → t.stops ≡ None
 only_first (frame.Stops n) h (stops e) = e
 only_first (frame.Row a b c d o) h (row e r) = absurd (omega arith)
 only_first (frame.Pivot p s) h (pivot e r) = absurd (omega arith)
@@ -79,23 +78,23 @@ only_first (frame.Ask x a w) h (asks e r) = absurd (omega arith)
 only_first {t = t} frame.Nothing h x3 = elim x3 [ ]
 
 -- before the number of stops it can't be done
-pub too_early : {t : Known} (f : Frame) → 2 ≤ type_of f → t.stops ≡ none → (t' : Known) (x : List ℕ) → Does t f t' x → ⊥
+pub too_early : {t : Known} (f : Frame) → 2 ≤ type_of f → t.stops ≡ None → (t' : Known) (x : List ℕ) → Does t f t' x → ⊥
 too_early f h e t' x d = not_both e (later f h d).1
 
 done : (t : Known) (f : Frame) → Done t f
 done t f = go f t.stops refl (dec_lt (length t.rows) (most_rows * row_width)) (dec_lt (length t.pivots) (most_pivots * pivot_width))
   where
     go : (f : Frame) (o : Option ℕ) → t.stops ≡ o → Dec (length t.rows < most_rows * row_width) → Dec (length t.pivots < most_pivots * pivot_width) → Done t f
-    go (frame.Stops n) none e r p = inl (with_stops t n, [], stops e)
-    go (frame.Stops n) (some m) e r p = inr (λ t' x d. not_both (first d) e)
-    go (frame.Row a b c d o) none e r p = inr (too_early (frame.Row a b c d o) (omega arith) e)
-    go (frame.Row a b c d o) (some m) e (yes r) p = inl (with_row t (a ∷ b ∷ c ∷ d ∷ o ∷ []), [], row e r)
-    go (frame.Row a b c d o) (some m) e (no r) p = inr (λ t' x g. r (room_for_row g))
-    go (frame.Pivot q s) none e r p = inr (too_early (frame.Pivot q s) (omega arith) e)
-    go (frame.Pivot q s) (some m) e r (yes p) = inl (with_pivot t (q ∷ s ∷ []), [], pivot e p)
-    go (frame.Pivot q s) (some m) e r (no p) = inr (λ t' x g. p (room_for_pivot g))
-    go (frame.Ask x a w) none e r p = inr (too_early (frame.Ask x a w) (omega arith) e)
-    go (frame.Ask x a w) (some m) e r p = let l = answered t m x a w in inl (t, l.0, asks e l.1)
+    go (frame.Stops n) None e r p = inl (with_stops t n, [], stops e)
+    go (frame.Stops n) (Some m) e r p = inr (λ t' x d. not_both (first d) e)
+    go (frame.Row a b c d o) None e r p = inr (too_early (frame.Row a b c d o) (omega arith) e)
+    go (frame.Row a b c d o) (Some m) e (yes r) p = inl (with_row t (a ∷ b ∷ c ∷ d ∷ o ∷ []), [], row e r)
+    go (frame.Row a b c d o) (Some m) e (no r) p = inr (λ t' x g. r (room_for_row g))
+    go (frame.Pivot q s) None e r p = inr (too_early (frame.Pivot q s) (omega arith) e)
+    go (frame.Pivot q s) (Some m) e r (yes p) = inl (with_pivot t (q ∷ s ∷ []), [], pivot e p)
+    go (frame.Pivot q s) (Some m) e r (no p) = inr (λ t' x g. p (room_for_pivot g))
+    go (frame.Ask x a w) None e r p = inr (too_early (frame.Ask x a w) (omega arith) e)
+    go (frame.Ask x a w) (Some m) e r p = let l = answered t m x a w in inl (t, l.0, asks e l.1)
     go frame.Nothing o e r p = inr (λ t' x d. omega (arith, is_frame frame.Nothing d))
 
 -- what a line does, or that it is no frame
