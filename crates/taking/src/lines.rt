@@ -1,5 +1,7 @@
 // Lines of the input, however it comes in pieces.
 ghost use Rattle.std.specs.Prelude.{◌≡◌, ◌≤◌, IfSome, [], ◌∷◌, length};
+ghost use Rattle.printing.specs.Lines.{frame_words};
+ghost use Rattle.printing.specs.Parts.{PutsLine};
 ghost use Rattle.taking.specs.Room.{most_bytes, Ahead, Spare, LineTaken, PieceTaken, EndTaken, ReadTaken};
 
 use crate::state::{Desk, LONGEST};
@@ -7,19 +9,31 @@ use printing::frame_line;
 use std::ops::ControlFlow;
 
 impl Desk {
+    // Names the line, which is no frame. The answer is how many bytes are to print.
+    fn name_line(&mut self) -> usize
+        requires spare { Spare 1 self.old.day }
+        ensures named { PutsLine (frame_words self.old.day.line) self.old.day.made self.old.out result self.new.out }
+        ensures same_list { self.new.list ≡ self.old.list }
+        ensures same_pivots { self.new.pivots ≡ self.old.pivots }
+    {
+        frame_line(&mut self.out, self.day.made, self.day.line)
+    }
+
     // The line that was read, up to its end. Where it is no frame, the run ends with so many bytes to print.
     fn take_line(&mut self) -> ControlFlow<usize>
         requires spare { Spare 1 self.old.day }
         ensures { LineTaken self.old result self.new }
     {
-        let frame = frames::read_frame(&self.line[..self.day.len]);
+        let Some(frame) = frames::read_frame(&self.line[..self.day.len]) else {
+            return ControlFlow::Break(self.name_line());
+        };
         match self.take_frame(frame) {
             Some(()) => {
                 self.day.line += 1;
                 self.day.len = 0;
                 ControlFlow::Continue(())
             }
-            None => ControlFlow::Break(frame_line(&mut self.out, self.day.made, self.day.line)),
+            None => ControlFlow::Break(self.name_line()),
         }
     }
 
@@ -34,7 +48,7 @@ impl Desk {
         }
         let len = self.day.len;
         if len >= LONGEST {
-            return ControlFlow::Break(frame_line(&mut self.out, self.day.made, self.day.line));
+            return ControlFlow::Break(self.name_line());
         }
         self.line[len] = b;
         self.day.len += 1;

@@ -83,7 +83,6 @@ impl Desk {
             } => self.take_row(from, to, start, travel, owner),
             Frame::Pivot { stop, reading } => self.take_pivot(stop, reading),
             Frame::Ask { asker, a, w } => self.take_ask(asker, a, w),
-            Frame::Nothing => None,
         }
     }
 }

@@ -1,6 +1,6 @@
 -- What the code makes of a frame, a line and a byte is what the definitions say.
-use Rattle.std.specs.Prelude.{ℕ, ◌+◌, ◌*◌, ◌≤◌, ◌<◌, ◌≡◌, refl, ◌⊎◌, Option, Some, None, List, [], ◌∷◌, ◌++◌, length, get_or, take, drop}
-use Rattle.std.proofs.Common.{arith, suc-mul, add-one, sym, ◌∙◌, subst, inl, inr, length-append, take_at, drop_at, length-take-le}
+use Rattle.std.specs.Prelude.{ℕ, ◌+◌, ◌*◌, ◌≤◌, ◌<◌, ◌≡◌, refl, Option, Some, None, List, [], ◌∷◌, ◌++◌, length, get_or, take, drop}
+use Rattle.std.proofs.Common.{arith, suc-mul, add-one, sym, ◌∙◌, subst, length-append, take_at, drop_at, length-take-le}
 use Rattle.std.proofs.Math.Decide.{dec_lt}
 use Rattle.std.proofs.lemmas.List.Edits.{sets, sets-eq}
 use Rattle.rules.specs.Day.{most_rows, row_width, Ask}
@@ -11,8 +11,8 @@ use Rattle.figures.specs.declared.answers.Answer.TheVariants as answer
 use Rattle.figures.specs.Promises.{ask, PivotDiameterPromise}
 use Rattle.frames.specs.declared.frame.Frame.{Frame}
 use Rattle.frames.specs.declared.frame.Frame.TheVariants as frame
-use Rattle.frames.specs.Text.{type_of, IsTextOf, ReadPromise}
-use Rattle.frames.proofs.Laws.Unique.{text_unique, promised}
+use Rattle.frames.specs.Text.{type_of, ReadPromise}
+use Rattle.frames.proofs.Laws.Unique.{text_unique}
 use Rattle.printing.specs.Lines.{words_of, frame_words}
 use Rattle.printing.specs.Parts.{PutsLine}
 use Rattle.printing.specs.Laws.Puts.{puts_none}
@@ -20,7 +20,7 @@ use Rattle.taking.specs.declared.state.Desk.{Desk}
 use Rattle.taking.specs.Known.{Known, pivot_width, Zeros, Does, stops, row, pivot, asks, NoFrame}
 use Rattle.taking.specs.Room.{known_of, Keeps, FrameDone, FrameRefused, LineDone, LineNamed}
 use Rattle.taking.specs.Laws.Unique.{not_both}
-use Rattle.taking.specs.Laws.Exists.{first, room_for_row, room_for_pivot, is_frame, too_early}
+use Rattle.taking.specs.Laws.Exists.{first, room_for_row, room_for_pivot, too_early}
 
 -- numbers put after k things are one thing more, and what stands after them is kept
 module _ (xs vs : List ℕ) (k width : ℕ) (wide : length vs ≡ width) (room : k * width + width ≤ length xs) where
@@ -68,8 +68,8 @@ module _ (d : Desk) where
   stops_refused n e = refuses (frame.Stops n) (λ t x g. not_both (first g) e)
 
   -- before the number of stops no other frame can be done
-  pub early_refused : (f : Frame) → (1 ≤ type_of f → 2 ≤ type_of f) → d.day.stops ≡ None → FrameRefused f d d
-  early_refused f h e = refuses f (λ t x g. too_early f (h (is_frame f g)) e t x g)
+  pub early_refused : (f : Frame) → 2 ≤ type_of f → d.day.stops ≡ None → FrameRefused f d d
+  early_refused f h e = refuses f (λ t x g. too_early f h e t x g)
 
   pub row_refused : (from to start travel owner : ℕ) → most_rows ≤ d.day.rows → FrameRefused (frame.Row from to start travel owner) d d
   row_refused from to start travel owner l =
@@ -78,9 +78,6 @@ module _ (d : Desk) where
   pub pivot_refused : (stop reading : ℕ) → most_pivots ≤ d.day.pivots → FrameRefused (frame.Pivot stop reading) d d
   pivot_refused stop reading l =
       refuses (frame.Pivot stop reading) (λ t x g. omega (arith, d.day.few_pivots, d.pivots_long, length-take-le (d.day.pivots * pivot_width) d.pivots (omega (arith, d.day.few_pivots, d.pivots_long)), room_for_pivot g))
-
-  pub nothing_refused : FrameRefused frame.Nothing d d
-  nothing_refused = refuses frame.Nothing (λ t x g. omega (arith, is_frame frame.Nothing g))
 
   module _ (d' : Desk) (same_line : d'.day.line ≡ d.day.line) where
     -- a frame that prints nothing
@@ -141,32 +138,31 @@ module _ (d : Desk) where
         }
 
 -- a line that is the text of a frame that was done
-pub line_done : (f : Frame) (d m d' : Desk) → ReadPromise (take d.day.len d.line) f → FrameDone f d m → known_of d' ≡ known_of m → d'.day.made ≡ m.day.made → d'.out ≡ m.out
+pub line_done : (f : Frame) (d m d' : Desk) → ReadPromise (take d.day.len d.line) (Some f) → FrameDone f d m → known_of d' ≡ known_of m → d'.day.made ≡ m.day.made → d'.out ≡ m.out
     → d'.day.line ≡ m.day.line + 1 → d'.day.len ≡ 0 → Keeps d d' → LineDone d d'
+unfolding ReadPromise
 line_done f d m d' p h k made out l z keeps =
     record {
       text = h.text;
-      tells = record { frame = f; is_text = go (promised (take d.day.len d.line) f p); does = subst (λ (t : Known). Does (known_of d) f t h.text) (sym k) h.does };
+      tells = record { frame = f; is_text = p; does = subst (λ (t : Known). Does (known_of d) f t h.text) (sym k) h.does };
       puts = rw (made, out) h.puts;
       short = h.short;
       next_line = l ∙ rw h.same_line refl;
       at_start = z;
       keeps = keeps;
     }
-  where
-    go : ((f ≡ frame.Nothing) × ((g : Frame) → IsTextOf g (take d.day.len d.line) → ⊥)) ⊎ IsTextOf f (take d.day.len d.line) → IsTextOf f (take d.day.len d.line)
-    go (inl n) = absurd (let k : 1 ≤ type_of frame.Nothing = subst (λ (g : Frame). 1 ≤ type_of g) n.0 (is_frame f h.does) in omega arith)
-    go (inr i) = i
 
 -- a line that is no frame's text, or that of one that can't be done
-pub line_refused : (f : Frame) (t : Known) (line : List ℕ) → ReadPromise line f → ((t' : Known) (x : List ℕ) → Does t f t' x → ⊥) → NoFrame t line
-line_refused f t line p h = go (promised line f p)
-  where
-    go : ((f ≡ frame.Nothing) × ((g : Frame) → IsTextOf g line → ⊥)) ⊎ IsTextOf f line → NoFrame t line
-    go (inl n) t' x s = n.1 s.frame s.is_text
-    go (inr i) t' x s = h t' x (subst (λ (g : Frame). Does t g t' x) (text_unique line s.frame f s.is_text i) s.does)
 
-pub line_stopped : (f : Frame) (d m d' : Desk) (end : ℕ) → ReadPromise (take d.day.len d.line) f → FrameRefused f d m → PutsLine (frame_words m.day.line) m.day.made m.out end d'.out
+pub line_no_text : (t : Known) (line : List ℕ) → ReadPromise line None → NoFrame t line
+unfolding ReadPromise
+line_no_text t line p t' x s = p s.frame s.is_text
+
+pub line_refused : (f : Frame) (t : Known) (line : List ℕ) → ReadPromise line (Some f) → ((t' : Known) (x : List ℕ) → Does t f t' x → ⊥) → NoFrame t line
+unfolding ReadPromise
+line_refused f t line p h t' x s = h t' x (subst (λ (g : Frame). Does t g t' x) (text_unique line s.frame f s.is_text p) s.does)
+
+pub line_stopped : (f : Frame) (d m d' : Desk) (end : ℕ) → ReadPromise (take d.day.len d.line) (Some f) → FrameRefused f d m → PutsLine (frame_words m.day.line) m.day.made m.out end d'.out
     → d'.list ≡ m.list → d'.pivots ≡ m.pivots → LineNamed d end d'
 line_stopped f d m d' end p h n l q =
     record {

@@ -40,7 +40,6 @@ does_single t (frame.Row from to start travel owner) _ _ _ _ (row e h) (row f g)
 does_single t (frame.Pivot stop reading) _ _ _ _ (pivot e h) (pivot f g) = (refl, refl)
 does_single t (frame.Ask asker A W) _ _ x y (asks {n} e a) (asks {n = m} f b) =
     (refl, answered_single t n asker A W x y a (subst (λ (k : ℕ). Answered t k asker A W y) (some_same f e) b))
-does_single t frame.Nothing _ _ x y x4 _ = elim x4 [ ]
 
 -- what a line does
 pub tells_single : {t : Known} {line : List ℕ} {t' t'' : Known} {x y : List ℕ} → Tells t line t' x → Tells t line t'' y → (t' ≡ t'') × (x ≡ y)
