@@ -20,6 +20,7 @@ impl Desk {
     }
 
     // The line that was read, up to its end. Where it is no frame, the run ends with so many bytes to print.
+    #[tactic(auto, using(crate::specs::Laws::Steps::line_done))]
     fn take_line(&mut self) -> ControlFlow<usize>
         requires spare { Spare 1 self.old.day }
         ensures { LineTaken self.old result self.new }

@@ -10,6 +10,7 @@ use printing::answer_line;
 
 impl Desk {
     // The number of stops, first and once.
+    #[tactic(auto, using(crate::specs::Laws::Steps::stops_done))]
     fn take_stops(&mut self, n: u32) -> Option<()>
         ensures { FrameTaken (Stops n) self.old result self.new }
     {
@@ -29,17 +30,14 @@ impl Desk {
             return None;
         }
         let at = rows * ROW_WIDTH;
-        self.list[at] = from;
-        self.list[at + 1] = to;
-        self.list[at + 2] = start;
-        self.list[at + 3] = travel;
-        self.list[at + 4] = owner;
+        let row = [from, to, start, travel, owner];
+        self.list[at..at + ROW_WIDTH].copy_from_slice(&row);
         self.day.rows += 1;
         Some(())
     }
 
-    fn take_pivot(&mut self, p: u32, s: u32) -> Option<()>
-        ensures { FrameTaken (Pivot p s) self.old result self.new }
+    fn take_pivot(&mut self, stop: u32, reading: u32) -> Option<()>
+        ensures { FrameTaken (Pivot stop reading) self.old result self.new }
     {
         self.day.stops?;
         let count = self.day.pivots;
@@ -47,12 +45,13 @@ impl Desk {
             return None;
         }
         let at = count * PIVOT_WIDTH;
-        self.pivots[at] = p;
-        self.pivots[at + 1] = s;
+        let pivot = [stop, reading];
+        self.pivots[at..at + PIVOT_WIDTH].copy_from_slice(&pivot);
         self.day.pivots += 1;
         Some(())
     }
 
+    #[tactic(auto, using(crate::specs::Laws::Steps::ask_done, crate::specs::Laws::Steps::wiped_zeros))]
     fn take_ask(&mut self, asker: u32, a: u32, w: u32) -> Option<()>
         requires spare { Spare 1 self.old.day }
         ensures { FrameTaken (Ask asker a w) self.old result self.new }

@@ -1,8 +1,7 @@
 -- What the code makes of a frame, a line and a byte is what the definitions say.
 use Rattle.std.specs.Prelude.{ℕ, ◌+◌, ◌*◌, ◌≤◌, ◌<◌, ◌≡◌, refl, Option, Some, None, List, [], ◌∷◌, ◌++◌, length, get_or, take, drop}
-use Rattle.std.proofs.Common.{arith, suc-mul, add-one, sym, ◌∙◌, subst, length-append, take_at, drop_at, length-take-le}
+use Rattle.std.proofs.Common.{arith, sym, ◌∙◌, subst, length-take-le}
 use Rattle.std.proofs.Math.Decide.{dec_lt}
-use Rattle.std.proofs.lemmas.List.Edits.{sets, sets-eq}
 use Rattle.rules.specs.Day.{most_rows, row_width, Ask}
 use Rattle.rules.specs.Pivots.{most_pivots}
 use Rattle.rules.specs.Lent.{scratch_places, Wiped}
@@ -21,23 +20,6 @@ use Rattle.taking.specs.Known.{Known, pivot_width, Zeros, Does, stops, row, pivo
 use Rattle.taking.specs.Room.{known_of, Keeps, FrameDone, FrameRefused, LineDone, LineNamed}
 use Rattle.taking.specs.Laws.Unique.{not_both}
 use Rattle.taking.specs.Laws.Exists.{first, room_for_row, room_for_pivot, too_early}
-
--- numbers put after k things are one thing more, and what stands after them is kept
-module _ (xs vs : List ℕ) (k width : ℕ) (wide : length vs ≡ width) (room : k * width + width ≤ length xs) where
-  one_more : (k + 1) * width ≡ k * width + width
-  one_more = rw (add-one k) (suc-mul k width)
-
-  split : sets xs (k * width) vs ≡ (take (k * width) xs ++ vs) ++ drop (k * width + width) xs
-  split = let e : k * width + length vs ≤ length xs = omega (arith, wide) in rw wide at (sets-eq vs xs (k * width) e)
-
-  fits : length (take (k * width) xs ++ vs) ≡ k * width + width
-  fits = length-append (take (k * width) xs) vs ∙ omega (arith, length-take-le (k * width) xs (omega arith), wide)
-
-  put_front : take ((k + 1) * width) (sets xs (k * width) vs) ≡ take (k * width) xs ++ vs
-  put_front = rw (one_more, split, take_at (take (k * width) xs ++ vs) (drop (k * width + width) xs) (k * width + width) fits)
-
-  put_back : drop ((k + 1) * width) (sets xs (k * width) vs) ≡ drop ((k + 1) * width) xs
-  put_back = rw (one_more, split, drop_at (take (k * width) xs ++ vs) (drop (k * width + width) xs) (k * width + width) fits)
 
 known_same : {o o' : Option ℕ} {r r' p p' : List ℕ} → o ≡ o' → r ≡ r' → p ≡ p' → ◌≡◌ {A = Known} (record { stops = o; rows = r; pivots = p }) (record { stops = o'; rows = r'; pivots = p' })
 known_same e f g = λ i. record { stops = e i; rows = f i; pivots = g i }
@@ -92,33 +74,29 @@ module _ (d : Desk) where
         (subst (λ (t : Known). Does (known_of d) (frame.Stops n) t []) (known_same (sym s) (λ i. take (sym r i * row_width) (sym l i)) (λ i. take (sym p i * pivot_width) (sym q i))) (stops e))
         (record { more_rows = omega arith; more_pivots = omega arith; list_kept = rw l refl; pivots_kept = rw q refl }) m o
 
-    pub row_done : (from to start travel owner : ℕ) {n : ℕ} → d.day.stops ≡ Some n → d.day.rows < most_rows → d'.day.stops ≡ d.day.stops → d'.day.rows ≡ d.day.rows + 1
-        → d'.list ≡ sets d.list (d.day.rows * row_width) (from ∷ to ∷ start ∷ travel ∷ owner ∷ []) → d'.day.pivots ≡ d.day.pivots → d'.pivots ≡ d.pivots
+    -- a row stands after those before it, and the places after it are kept
+    pub row_done : (from to start travel owner : ℕ) {n : ℕ} → d.day.stops ≡ Some n → d.day.rows < most_rows → d'.day.stops ≡ d.day.stops → d.day.rows ≤ d'.day.rows
+        → take (d'.day.rows * row_width) d'.list ≡ take (d.day.rows * row_width) d.list ++ (from ∷ to ∷ start ∷ travel ∷ owner ∷ [])
+        → drop (d'.day.rows * row_width) d'.list ≡ drop (d'.day.rows * row_width) d.list → d'.day.pivots ≡ d.day.pivots → d'.pivots ≡ d.pivots
         → d'.day.made ≡ d.day.made → d'.out ≡ d.out → FrameDone (frame.Row from to start travel owner) d d'
-    row_done from to start travel owner e few s r l p q m o =
-        let numbers : List ℕ = from ∷ to ∷ start ∷ travel ∷ owner ∷ [] in
+    row_done from to start travel owner e few s r front back p q m o =
         let long = d.list_long in
-        let room : d.day.rows * row_width + row_width ≤ length d.list = omega arith in
-        let front : length (take (d.day.rows * row_width) d.list) ≡ d.day.rows * row_width = length-take-le (d.day.rows * row_width) d.list (omega arith) in
+        let before : length (take (d.day.rows * row_width) d.list) ≡ d.day.rows * row_width = length-take-le (d.day.rows * row_width) d.list (omega arith) in
         quiet (frame.Row from to start travel owner)
-        (subst (λ (t : Known). Does (known_of d) (frame.Row from to start travel owner) t [])
-        (known_same (sym s) (sym (put_front d.list numbers d.day.rows row_width refl room) ∙ (λ i. take (sym r i * row_width) (sym l i))) (λ i. take (sym p i * pivot_width) (sym q i)))
-        (row e (omega arith)))
-        (record { more_rows = omega arith; more_pivots = omega arith; list_kept = rw (r, l) (put_back d.list numbers d.day.rows row_width refl room); pivots_kept = rw q refl }) m o
+        (subst (λ (t : Known). Does (known_of d) (frame.Row from to start travel owner) t []) (known_same (sym s) (sym front) (λ i. take (sym p i * pivot_width) (sym q i))) (row e (omega arith)))
+        (record { more_rows = r; more_pivots = omega arith; list_kept = back; pivots_kept = rw q refl }) m o
 
+    -- and so does a pivot
     pub pivot_done : (stop reading : ℕ) {n : ℕ} → d.day.stops ≡ Some n → d.day.pivots < most_pivots → d'.day.stops ≡ d.day.stops → d'.day.rows ≡ d.day.rows → d'.list ≡ d.list
-        → d'.day.pivots ≡ d.day.pivots + 1 → d'.pivots ≡ sets d.pivots (d.day.pivots * pivot_width) (stop ∷ reading ∷ [])
+        → d.day.pivots ≤ d'.day.pivots → take (d'.day.pivots * pivot_width) d'.pivots ≡ take (d.day.pivots * pivot_width) d.pivots ++ (stop ∷ reading ∷ [])
+        → drop (d'.day.pivots * pivot_width) d'.pivots ≡ drop (d'.day.pivots * pivot_width) d.pivots
         → d'.day.made ≡ d.day.made → d'.out ≡ d.out → FrameDone (frame.Pivot stop reading) d d'
-    pivot_done stop reading e few s r l p q m o =
-        let numbers : List ℕ = stop ∷ reading ∷ [] in
+    pivot_done stop reading e few s r l p front back m o =
         let long = d.pivots_long in
-        let room : d.day.pivots * pivot_width + pivot_width ≤ length d.pivots = omega arith in
-        let front : length (take (d.day.pivots * pivot_width) d.pivots) ≡ d.day.pivots * pivot_width = length-take-le (d.day.pivots * pivot_width) d.pivots (omega arith) in
+        let before : length (take (d.day.pivots * pivot_width) d.pivots) ≡ d.day.pivots * pivot_width = length-take-le (d.day.pivots * pivot_width) d.pivots (omega arith) in
         quiet (frame.Pivot stop reading)
-        (subst (λ (t : Known). Does (known_of d) (frame.Pivot stop reading) t [])
-        (known_same (sym s) (λ i. take (sym r i * row_width) (sym l i)) (sym (put_front d.pivots numbers d.day.pivots pivot_width refl room) ∙ (λ i. take (sym p i * pivot_width) (sym q i))))
-        (pivot e (omega arith)))
-        (record { more_rows = omega arith; more_pivots = omega arith; list_kept = rw l refl; pivots_kept = rw (p, q) (put_back d.pivots numbers d.day.pivots pivot_width refl room) }) m o
+        (subst (λ (t : Known). Does (known_of d) (frame.Pivot stop reading) t []) (known_same (sym s) (λ i. take (sym r i * row_width) (sym l i)) (sym front)) (pivot e (omega arith)))
+        (record { more_rows = omega arith; more_pivots = p; list_kept = rw l refl; pivots_kept = back }) m o
 
     -- an ask is answered, and its line is put after what was made before
     pub ask_done : (asker a w : ℕ) {n : ℕ} (answer : Answer) (scratch' : List ℕ) → d.day.stops ≡ Some n
