@@ -21,10 +21,7 @@ pub fn read_all(input: &mut Stdin, desk: &mut Desk) {
     let mut buffer = io::buffer();
     desk.day = Day::new();
     for _ in 0..MOST_READS {
-        let read = match input.read(&mut buffer) {
-            Ok(n) => Some(&buffer[..n]),
-            Err(_) => None,
-        };
+        let read = input.read(&mut buffer).ok().map(|n| &buffer[..n]);
         match desk.take_read(read) {
             ControlFlow::Continue(()) => write(&desk.out, desk.day.made),
             ControlFlow::Break(made) => {

@@ -39,7 +39,7 @@ impl Desk {
     }
 
     // One byte of the input. A line longer than any frame ends the run at its first byte too many.
-    #[tactic(auto, using(crate::specs::Laws::Bytes::byte_ends, crate::specs::Laws::Bytes::byte_more, crate::specs::Laws::Bytes::byte_too_many))]
+    #[tactic(auto, using(crate::specs::Laws::Bytes::one_byte))]
     fn take_byte(&mut self, b: u8) -> ControlFlow<usize>
         requires spare { Spare 1 self.old.day }
         ensures { PieceTaken (b ∷ []) self.old.day.made self.old result self.new }
@@ -57,7 +57,7 @@ impl Desk {
     }
 
     // One piece of the input. What it prints is put after what was made before.
-    #[tactic(auto, using(crate::specs::Laws::Bytes::bytes_none, crate::specs::Laws::Bytes::bytes_more, crate::specs::Laws::Bytes::spare_now))]
+    #[tactic(auto, using(crate::specs::Laws::Bytes::bytes_so_far))]
     fn take_bytes(&mut self, bytes: &[u8]) -> ControlFlow<usize>
         requires spare { Spare (length bytes.now) self.old.day }
         ensures { PieceTaken bytes.now self.old.day.made self.old result self.new }

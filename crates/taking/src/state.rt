@@ -16,6 +16,9 @@ pub(crate) const MOST_PIVOTS: usize = 16;
 // The length of the longest frame.
 pub(crate) const LONGEST: usize = 28;
 
+// How many places of scratch an ask wants.
+pub(crate) const SCRATCH: usize = 16384;
+
 // A piece has at most 4,096 bytes, and each may end a line that prints one of at most 84 bytes.
 pub const OUT_ROOM: usize = 344064;
 
@@ -40,10 +43,10 @@ pub struct Day {
 // `scratch` is lent to each ask, and `out` is what to print.
 #[derive(Drop)]
 pub struct Desk {
-    pub line: [u8; LONGEST],
-    pub list: [u32; MOST_ROWS * ROW_WIDTH],
-    pub pivots: [u32; MOST_PIVOTS * PIVOT_WIDTH],
-    pub scratch: [u32; 16384],
+    pub(crate) line: [u8; LONGEST],
+    pub(crate) list: [u32; MOST_ROWS * ROW_WIDTH],
+    pub(crate) pivots: [u32; MOST_PIVOTS * PIVOT_WIDTH],
+    pub(crate) scratch: [u32; SCRATCH],
     pub out: Out,
     pub day: Day,
     pub ghost line_long: { length line ≡ longest },
@@ -79,7 +82,7 @@ impl Desk {
             line: [0; LONGEST],
             list: [0; MOST_ROWS * ROW_WIDTH],
             pivots: [0; MOST_PIVOTS * PIVOT_WIDTH],
-            scratch: [0; 16384],
+            scratch: [0; SCRATCH],
             out: [0; OUT_ROOM],
             day: Day::new(),
         }

@@ -118,13 +118,13 @@ piece_halted q h = record { text = h.text; halts = halts_more q h.halts; puts = 
 -- the bytes of a piece, of which i are taken
 
 module _ (bytes : List ℕ) (i : ℕ) (inside : i < length bytes) (at : ℕ) (d d' d'' : Desk) where
-  one_byte : take (i + 1) bytes ≡ take i bytes ++ (get_or bytes i 0 ∷ [])
-  one_byte = rw (add-one i) (take-suc bytes i 0 inside)
+  with_byte : take (i + 1) bytes ≡ take i bytes ++ (get_or bytes i 0 ∷ [])
+  with_byte = rw (add-one i) (take-suc bytes i 0 inside)
 
   -- what the next byte leads to
   after_byte : (r : ControlFlow ℕ (Unit {0})) → PieceWent (take i bytes) at d d' → PieceTaken (get_or bytes i 0 ∷ []) d'.day.made d' r d'' → PieceTaken (take (i + 1) bytes) at d r d''
   after_byte r g h =
-      subst (λ (p : List ℕ). PieceTaken p at d r d'') (sym one_byte) (piece_next (take i bytes) (get_or bytes i 0 ∷ []) at d d' r d'' g h)
+      subst (λ (p : List ℕ). PieceTaken p at d r d'') (sym with_byte) (piece_next (take i bytes) (get_or bytes i 0 ∷ []) at d d' r d'' g h)
 
   pub bytes_more : PieceWent (take i bytes) at d d' → PieceWent (get_or bytes i 0 ∷ []) d'.day.made d' d'' → PieceWent (take (i + 1) bytes) at d d''
   bytes_more g h = after_byte (Continue tt) g h
@@ -215,3 +215,7 @@ anew_end d d₀ stand same_out end out' h =
       puts = rw same_out at h.puts;
       fits = h.fits;
     }
+
+pub ruleset one_byte = (byte_ends, byte_more, byte_too_many)
+
+pub ruleset bytes_so_far = (bytes_none, bytes_more, spare_now)
