@@ -1,5 +1,5 @@
 -- What the contracts cite: the desk in the code, and where the run stands by it.
-use Rattle.std.specs.Prelude.{ℕ, ◌+◌, ◌*◌, ◌^◌, ◌≤◌, ◌<◌, ◌≡◌, Option, Some, None, List, [], ◌∷◌, length, take, drop}
+use Rattle.std.specs.Prelude.{ℕ, ◌+◌, ◌*◌, ◌^◌, ◌≤◌, ◌<◌, ◌≡◌, Option, Some, None, List, [], ◌∷◌, ◌++◌, length, take, drop}
 use Rattle.std.specs.Borrow.{Bor}
 use Rattle.std.specs.declared.ops.ControlFlow.{ControlFlow}
 use Rattle.std.specs.declared.ops.ControlFlow.TheVariants.{Continue, Break}
@@ -55,6 +55,17 @@ pub record Keeps (d d' : Desk) : Type 0 where
   pub list_kept : drop (d'.day.rows * row_width) d'.list ≡ drop (d'.day.rows * row_width) d.list
   pub pivots_kept : drop (d'.day.pivots * pivot_width) d'.pivots ≡ drop (d'.day.pivots * pivot_width) d.pivots
 
+-- one thing more stands after the others, and the places after it are kept
+pub record Added (width : ℕ) (numbers : List ℕ) (count : ℕ) (old : List ℕ) (count' : ℕ) (new : List ℕ) : Type 0 where
+  pub one_more : count' ≡ count + 1
+  pub front : take (count' * width) new ≡ take (count * width) old ++ numbers
+  pub back : drop (count' * width) new ≡ drop (count' * width) old
+
+-- or there are as many as may be, and nothing changes
+abbrev pub PutMore : (width : ℕ) (numbers : List ℕ) (count most : ℕ) (old : List ℕ) → Option ℕ → (new : List ℕ) → Type 0
+PutMore width numbers count most old (Some count') new = (count < most) × Added width numbers count old count' new
+PutMore width numbers count most old None new = (most ≤ count) × (new ≡ old)
+
 -- a frame is done, and the run stays on its line
 pub record FrameDone (f : Frame) (d d' : Desk) : Type 0 where
   pub text : List ℕ
@@ -67,7 +78,10 @@ pub record FrameDone (f : Frame) (d d' : Desk) : Type 0 where
 -- a frame that can't be done changes nothing
 pub record FrameRefused (f : Frame) (d d' : Desk) : Type 0 where
   pub does_not : (t : Known) (text : List ℕ) → Does (known_of d) f t text → ⊥
-  pub same : d' ≡ d
+  pub same_day : d'.day ≡ d.day
+  pub same_list : d'.list ≡ d.list
+  pub same_pivots : d'.pivots ≡ d.pivots
+  pub same_out : d'.out ≡ d.out
 
 abbrev pub FrameTaken : Frame → Desk → Option (Unit {0}) → Desk → Type 0
 FrameTaken f d (Some u) d' = FrameDone f d d'

@@ -1,12 +1,30 @@
 // Frames, taken one after another: stops, rows and pivots are kept, an ask is answered.
-ghost use Rattle.std.specs.Prelude.{◌≡◌, Some};
+ghost use Rattle.std.specs.Prelude.{◌≡◌, ◌*◌, Some, length};
 ghost use Rattle.frames.specs.declared.frame.Frame.TheVariants.{Stops, Row, Pivot, Ask};
-ghost use Rattle.taking.specs.Room.{Spare, FrameTaken};
+ghost use Rattle.taking.specs.Room.{Spare, PutMore, FrameTaken};
 
 use crate::state::{Desk, MOST_PIVOTS, PIVOT_WIDTH};
 use day::{MOST_ROWS, ROW_WIDTH};
 use frames::Frame;
 use printing::answer_line;
+
+// Puts one thing more after `count` of them, where there is room for `most`. The answer is how many there are then.
+fn put<const WIDTH: usize>(
+    room: &mut [u32],
+    count: usize,
+    most: usize,
+    numbers: [u32; WIDTH],
+) -> Option<usize>
+    requires whole { length room.old ≡ most * WIDTH }
+    ensures { PutMore WIDTH numbers.entry count most room.old result room.new }
+{
+    if count >= most {
+        return None;
+    }
+    let at = count * WIDTH;
+    room[at..at + WIDTH].copy_from_slice(&numbers);
+    Some(count + 1)
+}
 
 impl Desk {
     // The number of stops, first and once.
@@ -21,33 +39,23 @@ impl Desk {
         Some(())
     }
 
+    #[tactic(auto, using(crate::specs::Laws::Steps::row_done))]
     fn take_row(&mut self, from: u32, to: u32, start: u32, travel: u32, owner: u32) -> Option<()>
         ensures { FrameTaken (Row from to start travel owner) self.old result self.new }
     {
         self.day.stops?;
-        let rows = self.day.rows;
-        if rows >= MOST_ROWS {
-            return None;
-        }
-        let at = rows * ROW_WIDTH;
         let row = [from, to, start, travel, owner];
-        self.list[at..at + ROW_WIDTH].copy_from_slice(&row);
-        self.day.rows += 1;
+        self.day.rows = put(&mut self.list, self.day.rows, MOST_ROWS, row)?;
         Some(())
     }
 
+    #[tactic(auto, using(crate::specs::Laws::Steps::pivot_done))]
     fn take_pivot(&mut self, stop: u32, reading: u32) -> Option<()>
         ensures { FrameTaken (Pivot stop reading) self.old result self.new }
     {
         self.day.stops?;
-        let count = self.day.pivots;
-        if count >= MOST_PIVOTS {
-            return None;
-        }
-        let at = count * PIVOT_WIDTH;
         let pivot = [stop, reading];
-        self.pivots[at..at + PIVOT_WIDTH].copy_from_slice(&pivot);
-        self.day.pivots += 1;
+        self.day.pivots = put(&mut self.pivots, self.day.pivots, MOST_PIVOTS, pivot)?;
         Some(())
     }
 

@@ -1,5 +1,5 @@
 -- What the code makes of a frame, a line and a byte is what the definitions say.
-use Rattle.std.specs.Prelude.{ℕ, ◌+◌, ◌*◌, ◌≤◌, ◌<◌, ◌≡◌, refl, Option, Some, None, List, [], ◌∷◌, ◌++◌, length, get_or, take, drop}
+use Rattle.std.specs.Prelude.{ℕ, ◌+◌, ◌*◌, ◌≤◌, ◌<◌, ◌≡◌, refl, Option, Some, None, List, [], ◌∷◌, length, get_or, take}
 use Rattle.std.proofs.Common.{arith, sym, ◌∙◌, subst, length-take-le}
 use Rattle.std.proofs.Math.Decide.{dec_lt}
 use Rattle.rules.specs.Day.{most_rows, row_width, Ask}
@@ -17,7 +17,7 @@ use Rattle.printing.specs.Parts.{PutsLine}
 use Rattle.printing.specs.Laws.Puts.{puts_none}
 use Rattle.taking.specs.declared.state.Desk.{Desk}
 use Rattle.taking.specs.Known.{Known, pivot_width, Zeros, Does, stops, row, pivot, asks, NoFrame}
-use Rattle.taking.specs.Room.{known_of, Keeps, FrameDone, FrameRefused, LineDone, LineNamed}
+use Rattle.taking.specs.Room.{known_of, Keeps, Added, FrameDone, FrameRefused, LineDone, LineNamed}
 use Rattle.taking.specs.Laws.Unique.{not_both}
 use Rattle.taking.specs.Laws.Exists.{first, room_for_row, room_for_pivot, too_early}
 
@@ -41,26 +41,29 @@ wiped_zeros q pivots scratch r scratch' z = go r
     go (answer.Nothing visits) p = all p.2
     go (answer.Refused number place) p = subst (Zeros scratch_places) (sym p.1) z
 
-module _ (d : Desk) where
+module _ (d d' : Desk) (same_day : d'.day ≡ d.day) (same_list : d'.list ≡ d.list) (same_pivots : d'.pivots ≡ d.pivots) (same_out : d'.out ≡ d.out) where
   -- a frame that can't be done
-  pub refuses : (f : Frame) → ((t : Known) (x : List ℕ) → Does (known_of d) f t x → ⊥) → FrameRefused f d d
-  refuses f h = record { does_not = h; same = refl }
+  pub refuses : (f : Frame) → ((t : Known) (x : List ℕ) → Does (known_of d) f t x → ⊥) → FrameRefused f d d'
+  refuses f h = record { does_not = h; same_day = same_day; same_list = same_list; same_pivots = same_pivots; same_out = same_out }
 
-  pub stops_refused : (n : ℕ) {m : ℕ} → d.day.stops ≡ Some m → FrameRefused (frame.Stops n) d d
+  pub stops_refused : (n : ℕ) {m : ℕ} → d.day.stops ≡ Some m → FrameRefused (frame.Stops n) d d'
   stops_refused n e = refuses (frame.Stops n) (λ t x g. not_both (first g) e)
 
   -- before the number of stops no other frame can be done
-  pub early_refused : (f : Frame) → 2 ≤ type_of f → d.day.stops ≡ None → FrameRefused f d d
+  pub early_refused : (f : Frame) → 2 ≤ type_of f → d.day.stops ≡ None → FrameRefused f d d'
   early_refused f h e = refuses f (λ t x g. too_early f h e t x g)
 
-  pub row_refused : (from to start travel owner : ℕ) → most_rows ≤ d.day.rows → FrameRefused (frame.Row from to start travel owner) d d
+  pub row_refused : (from to start travel owner : ℕ) → most_rows ≤ d.day.rows → FrameRefused (frame.Row from to start travel owner) d d'
   row_refused from to start travel owner l =
-      refuses (frame.Row from to start travel owner) (λ t x g. omega (arith, d.day.few_rows, d.list_long, length-take-le (d.day.rows * row_width) d.list (omega (arith, d.day.few_rows, d.list_long)), room_for_row g))
+      let long = d.list_long in
+      refuses (frame.Row from to start travel owner) (λ t x g. omega (arith, length-take-le (d.day.rows * row_width) d.list (omega (arith, d.day.few_rows)), room_for_row g))
 
-  pub pivot_refused : (stop reading : ℕ) → most_pivots ≤ d.day.pivots → FrameRefused (frame.Pivot stop reading) d d
+  pub pivot_refused : (stop reading : ℕ) → most_pivots ≤ d.day.pivots → FrameRefused (frame.Pivot stop reading) d d'
   pivot_refused stop reading l =
-      refuses (frame.Pivot stop reading) (λ t x g. omega (arith, d.day.few_pivots, d.pivots_long, length-take-le (d.day.pivots * pivot_width) d.pivots (omega (arith, d.day.few_pivots, d.pivots_long)), room_for_pivot g))
+      let long = d.pivots_long in
+      refuses (frame.Pivot stop reading) (λ t x g. omega (arith, length-take-le (d.day.pivots * pivot_width) d.pivots (omega (arith, d.day.few_pivots)), room_for_pivot g))
 
+module _ (d : Desk) where
   module _ (d' : Desk) (same_line : d'.day.line ≡ d.day.line) where
     -- a frame that prints nothing
     quiet : (f : Frame) → Does (known_of d) f (known_of d') [] → Keeps d d' → d'.day.made ≡ d.day.made → d'.out ≡ d.out → FrameDone f d d'
@@ -74,29 +77,25 @@ module _ (d : Desk) where
         (subst (λ (t : Known). Does (known_of d) (frame.Stops n) t []) (known_same (sym s) (λ i. take (sym r i * row_width) (sym l i)) (λ i. take (sym p i * pivot_width) (sym q i))) (stops e))
         (record { more_rows = omega arith; more_pivots = omega arith; list_kept = rw l refl; pivots_kept = rw q refl }) m o
 
-    -- a row stands after those before it, and the places after it are kept
-    pub row_done : (from to start travel owner : ℕ) {n : ℕ} → d.day.stops ≡ Some n → d.day.rows < most_rows → d'.day.stops ≡ d.day.stops → d.day.rows ≤ d'.day.rows
-        → take (d'.day.rows * row_width) d'.list ≡ take (d.day.rows * row_width) d.list ++ (from ∷ to ∷ start ∷ travel ∷ owner ∷ [])
-        → drop (d'.day.rows * row_width) d'.list ≡ drop (d'.day.rows * row_width) d.list → d'.day.pivots ≡ d.day.pivots → d'.pivots ≡ d.pivots
+    pub row_done : (from to start travel owner : ℕ) {n : ℕ} → Added row_width (from ∷ to ∷ start ∷ travel ∷ owner ∷ []) d.day.rows d.list d'.day.rows d'.list → d.day.rows < most_rows
+        → d.day.stops ≡ Some n → d'.day.stops ≡ d.day.stops → d'.day.pivots ≡ d.day.pivots → d'.pivots ≡ d.pivots
         → d'.day.made ≡ d.day.made → d'.out ≡ d.out → FrameDone (frame.Row from to start travel owner) d d'
-    row_done from to start travel owner e few s r front back p q m o =
+    row_done from to start travel owner add few e s p q m o =
         let long = d.list_long in
         let before : length (take (d.day.rows * row_width) d.list) ≡ d.day.rows * row_width = length-take-le (d.day.rows * row_width) d.list (omega arith) in
         quiet (frame.Row from to start travel owner)
-        (subst (λ (t : Known). Does (known_of d) (frame.Row from to start travel owner) t []) (known_same (sym s) (sym front) (λ i. take (sym p i * pivot_width) (sym q i))) (row e (omega arith)))
-        (record { more_rows = r; more_pivots = omega arith; list_kept = back; pivots_kept = rw q refl }) m o
+        (subst (λ (t : Known). Does (known_of d) (frame.Row from to start travel owner) t []) (known_same (sym s) (sym add.front) (λ i. take (sym p i * pivot_width) (sym q i))) (row e (omega arith)))
+        (record { more_rows = omega (arith, add.one_more); more_pivots = omega arith; list_kept = add.back; pivots_kept = rw q refl }) m o
 
-    -- and so does a pivot
-    pub pivot_done : (stop reading : ℕ) {n : ℕ} → d.day.stops ≡ Some n → d.day.pivots < most_pivots → d'.day.stops ≡ d.day.stops → d'.day.rows ≡ d.day.rows → d'.list ≡ d.list
-        → d.day.pivots ≤ d'.day.pivots → take (d'.day.pivots * pivot_width) d'.pivots ≡ take (d.day.pivots * pivot_width) d.pivots ++ (stop ∷ reading ∷ [])
-        → drop (d'.day.pivots * pivot_width) d'.pivots ≡ drop (d'.day.pivots * pivot_width) d.pivots
+    pub pivot_done : (stop reading : ℕ) {n : ℕ} → Added pivot_width (stop ∷ reading ∷ []) d.day.pivots d.pivots d'.day.pivots d'.pivots → d.day.pivots < most_pivots
+        → d.day.stops ≡ Some n → d'.day.stops ≡ d.day.stops → d'.day.rows ≡ d.day.rows → d'.list ≡ d.list
         → d'.day.made ≡ d.day.made → d'.out ≡ d.out → FrameDone (frame.Pivot stop reading) d d'
-    pivot_done stop reading e few s r l p front back m o =
+    pivot_done stop reading add few e s r l m o =
         let long = d.pivots_long in
         let before : length (take (d.day.pivots * pivot_width) d.pivots) ≡ d.day.pivots * pivot_width = length-take-le (d.day.pivots * pivot_width) d.pivots (omega arith) in
         quiet (frame.Pivot stop reading)
-        (subst (λ (t : Known). Does (known_of d) (frame.Pivot stop reading) t []) (known_same (sym s) (λ i. take (sym r i * row_width) (sym l i)) (sym front)) (pivot e (omega arith)))
-        (record { more_rows = omega arith; more_pivots = p; list_kept = rw l refl; pivots_kept = back }) m o
+        (subst (λ (t : Known). Does (known_of d) (frame.Pivot stop reading) t []) (known_same (sym s) (λ i. take (sym r i * row_width) (sym l i)) (sym add.front)) (pivot e (omega arith)))
+        (record { more_rows = omega arith; more_pivots = omega (arith, add.one_more); list_kept = rw l refl; pivots_kept = add.back }) m o
 
     -- an ask is answered, and its line is put after what was made before
     pub ask_done : (asker a w : ℕ) {n : ℕ} (answer : Answer) (scratch' : List ℕ) → d.day.stops ≡ Some n
@@ -145,7 +144,7 @@ pub line_stopped : (f : Frame) (d m d' : Desk) (end : ℕ) → ReadPromise (take
 line_stopped f d m d' end p h n l q =
     record {
       no_frame = line_refused f (known_of d) (take d.day.len d.line) p h.does_not;
-      named = subst (λ (x : Desk). PutsLine (frame_words x.day.line) x.day.made x.out end d'.out) h.same n;
-      same_list = l ∙ (λ i. (h.same i).list);
-      same_pivots = q ∙ (λ i. (h.same i).pivots);
+      named = let e = h.same_day in let o = h.same_out in rw (e, o) at n;
+      same_list = l ∙ h.same_list;
+      same_pivots = q ∙ h.same_pivots;
     }
