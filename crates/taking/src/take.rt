@@ -67,9 +67,9 @@ impl Desk {
         let n = self.day.stops?;
         let end = self.day.rows * ROW_WIDTH;
         let last = self.day.pivots * PIVOT_WIDTH;
-        let rows = &self.list[..end];
-        let pivots = &self.pivots[..last];
-        let answer = figures::pivot_diameter(rows, n, asker, a, w, pivots, &mut self.scratch);
+        let list = &self.list[..end];
+        let ask = figures::Ask { list, n, asker, a, w };
+        let answer = ask.pivot_diameter(&self.pivots[..last], &mut self.scratch);
         self.day.made = answer_line(&mut self.out, self.day.made, answer);
         Some(())
     }
