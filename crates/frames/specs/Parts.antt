@@ -1,5 +1,5 @@
 -- What the contracts on digits and numbers cite.
-use Rattle.std.specs.Prelude.{ℕ, ◌+◌, ◌^◌, ◌≤◌, ◌<◌, ◌≡◌, Bool, true, false, List, map, length, get_or, take, drop}
+use Rattle.std.specs.Prelude.{ℕ, ◌+◌, ◌^◌, ◌≤◌, ◌<◌, ◌≡◌, Bool, true, false, List, map, All, length, take, drop}
 use Rattle.frames.specs.Text.{digit, digits, small}
 
 -- b says whether P holds
@@ -16,7 +16,7 @@ abbrev pub IsDigit : (b : ℕ) → Type 0
 IsDigit b = (d : ℕ) × DigitOf b d
 
 abbrev pub AllDigits : (line : List ℕ) → Type 0
-AllDigits line = (i : ℕ) → i < length line → IsDigit (get_or line i 0)
+AllDigits line = All IsDigit line
 
 -- a number of k digits, k at most 8, can be read from place `at` on
 pub record Readable (line : List ℕ) (at k : ℕ) : Type 0 where
@@ -28,8 +28,3 @@ pub record Readable (line : List ℕ) (at k : ℕ) : Type 0 where
 pub record NumberAt (line : List ℕ) (at k x : ℕ) : Type 0 where
   pub fits : x < 16 ^ k
   pub spelt : take k (drop at (map small line)) ≡ digits k x
-
--- a line of digits that begins with a type
-pub record Opens (line : List ℕ) (type : ℕ) : Type 0 where
-  pub all : AllDigits line
-  pub here : NumberAt line 0 2 type

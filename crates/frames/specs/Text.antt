@@ -1,7 +1,7 @@
 -- The format: what a frame is written as, and when a line is its text.
-use Rattle.std.specs.Prelude.{ℕ, zero, suc, ◌+◌, ◌/◌, ◌%◌, ◌^◌, ◌≤◌, ◌<◌, ◌≡◌, cond, ◌&&◌, List, [], ◌∷◌, ◌++◌, map, leb, ltb}
+use Rattle.std.specs.Prelude.{ℕ, zero, suc, ◌+◌, ◌/◌, ◌%◌, ◌^◌, ◌<◌, ◌≡◌, cond, ◌&&◌, Option, Some, None, List, [], ◌∷◌, ◌++◌, map, leb, ltb}
 use Rattle.frames.specs.declared.frame.Frame.{Frame}
-use Rattle.frames.specs.declared.frame.Frame.TheVariants.{Stops, Row, Pivot, Ask, Nothing}
+use Rattle.frames.specs.declared.frame.Frame.TheVariants.{Stops, Row, Pivot, Ask}
 
 -- a hexadecimal digit as a byte: 0 to 9, then a to f
 abbrev pub digit : ℕ → ℕ
@@ -26,13 +26,12 @@ four x = record { width = 4; number = x }
 abbrev pub eight : ℕ → Field
 eight x = record { width = 8; number = x }
 
--- a frame's type; 0 where there is no frame
+-- a frame's type
 abbrev pub type_of : Frame → ℕ
 type_of (Stops n) = 1
 type_of (Row from to start travel owner) = 2
 type_of (Pivot stop reading) = 3
 type_of (Ask asker a w) = 4
-type_of Nothing = 0
 
 -- what follows the type
 abbrev pub fields_of : Frame → List Field
@@ -40,7 +39,6 @@ fields_of (Stops n) = four n ∷ []
 fields_of (Row from to start travel owner) = four from ∷ four to ∷ eight start ∷ eight travel ∷ two owner ∷ []
 fields_of (Pivot stop reading) = four stop ∷ eight reading ∷ []
 fields_of (Ask asker a w) = two asker ∷ eight a ∷ eight w ∷ []
-fields_of Nothing = []
 
 -- fields one after another, no spaces
 unfoldable pub spell : List Field → List ℕ
@@ -62,14 +60,10 @@ small b = cond (leb 65 b && leb b 90) (b + 32) b
 
 -- the line is the frame's text, in either case of letter, and each number is in the range of its digits
 pub record IsTextOf (f : Frame) (line : List ℕ) : Type 0 where
-  pub frame : 1 ≤ type_of f
   pub fit : FieldsFit (fields_of f)
   pub spelt : map small line ≡ text_of f
 
--- the frame whose text the line is, or nothing where it is no frame's text
-unfoldable pub ReadPromise : (line : List ℕ) → Frame → Type 0
-ReadPromise line (Stops n) = IsTextOf (Stops n) line
-ReadPromise line (Row from to start travel owner) = IsTextOf (Row from to start travel owner) line
-ReadPromise line (Pivot stop reading) = IsTextOf (Pivot stop reading) line
-ReadPromise line (Ask asker a w) = IsTextOf (Ask asker a w) line
-ReadPromise line Nothing = (f : Frame) → IsTextOf f line → ⊥
+-- the frame whose text the line is, or none where it is no frame's text
+unfoldable pub ReadPromise : (line : List ℕ) → Option Frame → Type 0
+ReadPromise line (Some f) = IsTextOf f line
+ReadPromise line None = (f : Frame) → IsTextOf f line → ⊥

@@ -1,11 +1,11 @@
 -- A list that is filled from the front, one place after another.
-use Prim.Native.Nat.{ℕ, suc, ◌+◌, ◌≤◌, ◌<◌}
+use Prim.Native.Nat.{ℕ, suc, ◌+◌, ◌<◌}
 use mathlib.Core.Path.{◌≡◌, sym, ap, ◌∙◌}
 use mathlib.Core.List.{List, [], ◌∷◌, ◌++◌, append_assoc}
 use native.Mathlib.Omega.{arith}
 use native.Mathlib.Numerals.{add-one}
-use lib.ListN.{length, get_or, set, take, drop, replicate, length-replicate}
-use lib.Seq.{length-take-le, take-suc, take_all, drop-cons, set_at, set-append_left}
+use lib.ListN.{length, get_or, set, take, drop}
+use lib.Seq.{length-take-le, take-suc, take_all, drop-cons, set_at}
 
 -- k places hold the new numbers, and the rest is kept
 abbrev pub Filled : (new old : List ℕ) (k : ℕ) → List ℕ → Type 0
@@ -18,10 +18,3 @@ fill_one new old k v xs a b h e =
 
 pub fill_end : (new old : List ℕ) (k : ℕ) (xs : List ℕ) → length new ≡ k → Filled new old k xs → xs ≡ new ++ drop k old
 fill_end new old k xs e h = h ∙ ap (λ (l : List ℕ). l ++ drop k old) (take_all k new (omega arith))
-
--- the front is filled with x, and then y is stored in it
-pub fill_but : (n place x y : ℕ) (out front : List ℕ) → front ≡ replicate (length (take n out)) x → n ≤ length out → place < n
-    → set (front ++ drop n out) place y ≡ set (replicate n x) place y ++ drop n out
-fill_but n place x y out front e within inside =
-    let long : length (take n out) ≡ n = length-take-le n out within in
-    rw (e, long) (set-append_left (replicate n x) (drop n out) place y (omega (arith, length-replicate n x)))

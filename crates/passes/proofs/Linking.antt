@@ -7,10 +7,10 @@ use native.Mathlib.Decide.{dec_lt, ℕ_discrete}
 use lib.ListN.{length, get_or, set, replicate, length-set, length-replicate}
 use lib.Seq.{get_or-set_same, get_or-set_other, set_out}
 use Rattle.rules.specs.Day.{arrival, Sound, most_stops, most_rows}
-use Rattle.passes.specs.Legs.{no_leg}
+use Rattle.passes.specs.Legs.{no_leg, LegRead}
 use Rattle.passes.specs.declared.legs.Leg as declared
 use Rattle.passes.specs.Links.{link_places, leg_no, Orderly, first_past, onward, Jump, Chained, Twice, to_next, to_second, AllMost, Linked, Beside}
-use Rattle.passes.proofs.Laws.Links.{none_past, first_leaves, first_missed, first_hit, onward_first, leg_sound}
+use Rattle.passes.proofs.Laws.Links.{head_within, none_past, first_leaves, first_missed, first_hit, onward_first, leg_sound}
 
 -- what holds at each number above k, and of what is stored at k, holds at each number above k - 1
 pub stored : (P : ℕ → ℕ → Type 0) (m k v : ℕ) (xs : List ℕ) → k < length xs → ((x : ℕ) → k < x → x ≤ m → P x (get_or xs x 0)) → P k v → (x : ℕ) → k - 1 < x → x ≤ m → P x (get_or (set xs k v) x 0)
@@ -78,21 +78,32 @@ linking_none list next follow n f =
       jump_long = length-replicate {A = ℕ} 2049 0;
     }
 
-module _ (list : List declared.Leg) (fit : Orderly list) (k : ℕ) (one : 1 ≤ k) (within : k ≤ length list) (head next follow jump depth : List ℕ) (w : Linking list k head next follow jump depth) where
-  -- the first leg of a stop so far may be searched from
-  pub head_chained : (u : ℕ) → u < most_stops → (get_or head u 0 ≤ length list) × (1 ≤ get_or head u 0 → Chained list (get_or head u 0 - 1) next jump)
-  head_chained u h =
-      let e = w.linked.heads u h in
-      let f = first_leaves list k u 0 in (
-        omega (arith, f.most),
-        λ some.
-            let past : k < get_or head u 0 = rw e (f.later (rw e at some)) in
-            record {
-              nexts = λ x l m. w.linked.threads.nexts x (omega arith) m;
-              jumps = λ x l m. w.jumps x (omega arith) m;
-            },
-      )
+-- a leg that is read goes between stops
+module _ (list : List declared.Leg) (k : ℕ) (leg : declared.Leg) (read : LegRead list (k - 1) leg) (fit : Orderly list) (one : 1 ≤ k) (within : k ≤ length list) where
+  pub from_stop : leg.from < most_stops
+  from_stop = rw read.is (leg_sound list fit (k - 1) (omega arith)).from_below
 
+  pub to_stop : leg.to < most_stops
+  to_stop = rw read.is (leg_sound list fit (k - 1) (omega arith)).to_below
+
+-- the first leg of a stop so far is one of the legs, and may be searched from
+module _ (list : List declared.Leg) (k : ℕ) (head next follow jump depth : List ℕ) (w : Linking list k head next follow jump depth) (u : ℕ) (stop : u < most_stops) where
+  pub first_within : get_or head u 0 ≤ length list
+  first_within = head_within list head next follow k u w.linked stop
+
+  pub first_small : Orderly list → get_or head u 0 ≤ most_rows
+  first_small fit = omega (arith, fit.few, first_within)
+
+  pub first_chained : 1 ≤ get_or head u 0 → Chained list (get_or head u 0 - 1) next jump
+  first_chained some =
+      let e = w.linked.heads u stop in
+      let past : k < get_or head u 0 = rw e ((first_leaves list k u 0).later (rw e at some)) in
+      record {
+        nexts = λ x l m. w.linked.threads.nexts x (omega arith) m;
+        jumps = λ x l m. w.jumps x (omega arith) m;
+      }
+
+module _ (list : List declared.Leg) (fit : Orderly list) (k : ℕ) (one : 1 ≤ k) (within : k ≤ length list) (head next follow jump depth : List ℕ) (w : Linking list k head next follow jump depth) where
   own_leg : Sound most_stops (leg_no list k)
   own_leg = leg_sound list fit (k - 1) (omega arith)
 
@@ -157,14 +168,8 @@ module _ (list : List declared.Leg) (fit : Orderly list) (k : ℕ) (one : 1 ≤ 
       }
 
   -- the same with the leg as it was read
-  pub link_one : (leg : declared.Leg) (f q : ℕ) → leg ≡ get_or list (k - 1) no_leg → f ≡ onward list (get_or head leg.to 0) leg.arrive.0 → Twice jump (get_or head leg.from 0) q
+  pub link_one : (leg : declared.Leg) (f q : ℕ) → LegRead list (k - 1) leg → f ≡ onward list (get_or head leg.to 0) leg.arrive.0 → Twice jump (get_or head leg.from 0) q
       → Linking list (k - 1) (set head leg.from k) (set next k (get_or head leg.from 0)) (set follow k f) (set jump k q) (set depth k (get_or depth (get_or head leg.from 0) 0 + 1))
   link_one leg f q read found twice =
       let arrives : (get_or list (k - 1) no_leg).arrive.0 ≡ arrival (leg_no list k) = omega (arith, own_leg.travels) in
-      rw read (linking_step f q (rw (read, arrives) at found) (rw read at twice))
-
-  pub from_is : (leg : declared.Leg) → leg ≡ get_or list (k - 1) no_leg → leg.from < most_stops
-  from_is leg read = rw read own_leg.from_below
-
-  pub to_is : (leg : declared.Leg) → leg ≡ get_or list (k - 1) no_leg → leg.to < most_stops
-  to_is leg read = rw read own_leg.to_below
+      rw read.is (linking_step f q (rw (read.is, arrives) at found) (rw read.is at twice))

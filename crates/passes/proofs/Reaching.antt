@@ -1,21 +1,16 @@
 -- The loop of the scan back from a pivot: one leg more, from the last to the first.
-use Prim.Native.Nat.{ℕ, zero, suc, ◌+◌, ◌-◌, ◌≤◌, ◌<◌}
+use Prim.Native.Nat.{ℕ, suc, ◌+◌, ◌-◌, ◌≤◌, ◌<◌}
 use native.Mathlib.Omega.{arith}
-use mathlib.Core.Path.{◌≡◌, refl, ap, sym, ◌∙◌}
-use mathlib.Core.List.{List, [], ◌∷◌, reverse}
+use mathlib.Core.Path.{◌≡◌, ap, sym, ◌∙◌}
+use mathlib.Core.List.{List, reverse}
 use lib.ListN.{length, get_or}
-use Rattle.std.proofs.lemmas.List.{get_or-reverse, length-reverse}
+use Rattle.std.proofs.lemmas.List.{get_or_default, get_or-reverse, length-reverse}
 use Rattle.passes.specs.Legs.{no_leg, Laid}
 use Rattle.passes.specs.Links.{legs_past}
 use Rattle.passes.specs.Reach.{caught_by, reached_back}
 use Rattle.passes.proofs.Laws.Links.{legs_past_more}
 use Rattle.passes.proofs.Passing.{arrives}
 use Rattle.passes.specs.declared.legs.Leg as declared
-
-get_or_any : {A : Type 0} (xs : List A) (i : ℕ) (d e : A) → i < length xs → get_or xs i d ≡ get_or xs i e
-get_or_any [] i d e l = absurd (omega arith)
-get_or_any (x ∷ xs) zero d e l = refl
-get_or_any (x ∷ xs) (suc i) d e l = get_or_any xs i d e (omega arith)
 
 reached_next : (list : List declared.Leg) (j : ℕ) (st out : List ℕ) → j < length list → (get_or list j no_leg).start.0 ≤ (get_or list j no_leg).arrive.0
     → out ≡ reached_back (legs_past list (suc j)) st
@@ -36,5 +31,5 @@ reached_turn list n k leg st out laid (l, e) is =
     let back : length list - 1 - k ≡ j = omega arith in
     let next : length list - k ≡ suc j = omega arith in
     let inside : j < length list = omega arith in
-    let here : leg ≡ get_or list j no_leg = e ∙ (get_or-reverse list k leg within ∙ (rw back (get_or_any list j leg no_leg inside))) in
+    let here : leg ≡ get_or list j no_leg = e ∙ (get_or-reverse list k leg within ∙ (rw back (get_or_default list j leg no_leg inside))) in
     rw here (reached_next list j st out inside (laid.rises j inside) (rw next at is))

@@ -1,5 +1,5 @@
 -- Links between legs. A leg goes by its number, one more than its place in the list; 0 stands for no leg.
-use Rattle.std.specs.Prelude.{ℕ, suc, ◌-◌, ◌≤◌, ◌<◌, ◌≡◌, refl, cond, ◌&&◌, List, [], ◌∷◌, eqb, leb, length, get_or, drop}
+use Rattle.std.specs.Prelude.{ℕ, suc, ◌-◌, ◌≤◌, ◌<◌, ◌≡◌, refl, cond, ◌&&◌, List, [], ◌∷◌, eqb, leb, length, get_or, drop, replicate}
 use Rattle.rules.specs.Day.{Row, arrival, Sound, most_stops, most_rows}
 use Rattle.rules.specs.Faultless.{Good, good_none, good_more}
 use Rattle.passes.specs.Legs.{leg_at, legs_in}
@@ -82,6 +82,10 @@ pub record Beside (list : List declared.Leg) (k : ℕ) (old new : List ℕ) : Ty
   pub same_length : length new ≡ length old
   pub below : (x : ℕ) → x ≤ k → get_or new x 0 ≡ get_or old x 0
   pub beyond : (x : ℕ) → length list < x → get_or new x 0 ≡ get_or old x 0
+
+-- no leg is linked
+abbrev pub no_links : Links
+no_links = record { head = replicate most_stops 0; next = replicate link_places 0; follow = replicate link_places 0 }
 
 -- all legs are linked, and the places that belong to no leg are kept
 pub record AllLinked (list : List declared.Leg) (old new : Links) : Type 0 where

@@ -2,7 +2,6 @@
 ghost use Rattle.std.specs.Prelude.{◌≡◌, cond, ◌++◌, ◌≤◌, eqb, length, drop};
 ghost use Rattle.rules.specs.Day.{most_stops};
 ghost use Rattle.passes.specs.Legs.{legs_in};
-ghost use Rattle.passes.specs.Links.{link_places};
 ghost use Rattle.passes.specs.Backward.{Sweeps, distances_to};
 
 use crate::forward::UNREACHED;
@@ -26,7 +25,6 @@ fn distance_to(u: u32, target: u32, x: u32) -> u32
 impl LinkedLegs<'_> {
     // For each leg the earliest arrival at the target by it or a later leg of its from-stop; a place past the legs is kept.
     fn sweep(&self, target: u32, best: &mut [u32; 2049])
-        requires { length best.old ≡ link_places }
         ensures { Sweeps self.now.legs.now target best.old best.new }
     {
         best[0] = UNREACHED;
@@ -39,6 +37,7 @@ impl LinkedLegs<'_> {
     }
 
     // The distances to the target from the first n stops.
+    #[tactic(auto, using(crate::proofs::Sweeping::head_small))]
     pub fn to_target(&self, target: u32, n: usize, out: &mut [u32])
         requires n_le_most_stops { n ≤ most_stops }
         requires n_in_bounds { n ≤ length out.old }

@@ -19,7 +19,8 @@ fn arrival_of(x: u32) -> Option<Length>
 
 // Takes one leg, if the rider is there in time and it arrives earlier than known.
 fn relax(out: &mut [u32], leg: Leg)
-    requires { (leg.from < length out.old) × (leg.to < length out.old) }
+    requires from_in { leg.from < length out.old }
+    requires to_in { leg.to < length out.old }
     ensures { out.new ≡ relaxed out.old leg.from leg.to leg.start.0 leg.arrive.0 }
 {
     let to = leg.to as usize;

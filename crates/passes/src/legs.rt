@@ -30,7 +30,8 @@ impl Leg {
 
 // The leg with number k, which is leg k - 1 of the legs.
 pub(crate) fn leg_no(legs: &[Leg], k: usize) -> Leg
-    requires { (1 ≤ k) × (k ≤ length legs.now) }
+    requires some { 1 ≤ k }
+    requires within { k ≤ length legs.now }
     ensures { LegRead legs.now (k - 1) result }
 {
     legs[k - 1]
@@ -57,7 +58,8 @@ fn make_leg(r: Row, a: Reading, w: Reading) -> Option<Leg>
 
 // Keeps a row as a leg after k others, if it lies in the interval; answers how many legs there are then.
 fn keep_leg(legs: &mut [Leg], k: usize, r: Row, a: Reading, w: Reading) -> usize
-    requires { (w.0 ≤ horizon) × (k < length legs.old) }
+    requires w_in_day { w.0 ≤ horizon }
+    requires room { k < length legs.old }
     ensures { Kept 1 alone (fitsb a.0 w.0 (row_of r)) (leg_of a.0 (row_of r)) k legs.old result legs.new }
 {
     let Some(leg) = make_leg(r, a, w) else {

@@ -1,7 +1,7 @@
 // Links between legs, for scans from the last leg to the first. Number k stands for leg k - 1, and 0 for none.
 ghost use Rattle.std.specs.Prelude.{◌≡◌, ◌-◌, ◌≤◌, length};
 ghost use Rattle.rules.specs.Day.{most_rows};
-ghost use Rattle.passes.specs.Links.{Orderly, AllLinked, onward, Chained, Farther, Twice, AllMost};
+ghost use Rattle.passes.specs.Links.{Orderly, AllLinked, no_links, onward, Chained, Farther, Twice, AllMost};
 
 use crate::legs::{Leg, leg_no};
 use crate::linked::LinkedLegs;
@@ -23,6 +23,7 @@ struct Jumps {
 }
 
 // Where a search for a start at t or later goes next: a jump may only land on a leg that starts too early.
+#[tactic(auto, using(crate::specs::Links::to_near, crate::specs::Links::to_far))]
 fn farther(legs: &[Leg], near: u32, far: u32, t: Length) -> u32
     requires { far ≤ length legs.now }
     ensures { Farther legs.now near far t.0 result }
@@ -30,9 +31,11 @@ fn farther(legs: &[Leg], near: u32, far: u32, t: Length) -> u32
     if far == 0 {
         return near;
     }
-    let leg = leg_no(legs, far as usize);
-    let early = leg.start < t;
-    if early { far } else { near }
+    if leg_no(legs, far as usize).start < t {
+        far
+    } else {
+        near
+    }
 }
 
 // The first leg of a chain, from its leg k on, that starts at t or later.
@@ -44,8 +47,7 @@ fn first_from(legs: &[Leg], next: &[u32; 2049], jump: &[u32; 2049], k: u32, t: L
 {
     let mut j = k;
     while j > 0 {
-        let leg = leg_no(legs, j as usize);
-        let in_time = t <= leg.start;
+        let in_time = t <= leg_no(legs, j as usize).start;
         if in_time {
             return j;
         }
@@ -56,10 +58,11 @@ fn first_from(legs: &[Leg], next: &[u32; 2049], jump: &[u32; 2049], k: u32, t: L
 
 impl Jumps {
     // Where a leg before leg p of a chain jumps to: past the two jumps that follow where these are as long as each other.
+    #[tactic(auto, using(crate::specs::Links::to_next, crate::specs::Links::to_second))]
     fn jump_of(&self, p: u32) -> u32
-        requires p_le_most_rows { p ≤ most_rows }
-        requires all_most { AllMost most_rows self.now.to }
-        requires all_most_2 { AllMost most_rows self.now.depth }
+        requires p_most { p ≤ most_rows }
+        requires to_most { AllMost most_rows self.now.to }
+        requires depth_most { AllMost most_rows self.now.depth }
         ensures { Twice self.now.to p result }
     {
         if p == 0 {
@@ -80,7 +83,9 @@ impl Jumps {
 
 impl Links {
     // No leg is linked.
-    pub fn new() -> Links {
+    pub fn new() -> Links
+        ensures { result ≡ no_links }
+    {
         Links {
             head: [0; 256],
             next: [0; 2049],

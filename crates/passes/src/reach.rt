@@ -18,7 +18,9 @@ fn catches(there: u32, start: Length, arrive: Length) -> u32
 
 // Takes one leg, in front of those taken before.
 fn take_back(out: &mut [u32], leg: Leg)
-    requires { (leg.from < length out.old) × ((leg.to < length out.old) × (leg.start.0 ≤ leg.arrive.0)) }
+    requires from_in { leg.from < length out.old }
+    requires to_in { leg.to < length out.old }
+    requires rises { leg.start.0 ≤ leg.arrive.0 }
     ensures { out.new ≡ caught_by out.old leg.from leg.to leg.start.0 leg.arrive.0 }
 {
     let from = leg.from as usize;

@@ -1,10 +1,16 @@
 -- What the contracts on the parts of a line cite.
 use Rattle.std.specs.Prelude.{ℕ, ◌+◌, ◌≤◌, ◌≡◌, List, ◌++◌, length, take, drop}
+use Rattle.std.specs.Borrow.{MutBor}
 use Rattle.printing.specs.Lines.{Word, numeral, Spelt, LineOf}
 
 -- a line takes at most so many bytes: four numbers of 20 digits, three spaces and a newline
 abbrev pub line_room : ℕ
 line_room = 84
+
+-- a reference is the same as before, and so is its list's length
+pub record SameRoom (old new : MutBor (List ℕ)) : Type 0 where
+  pub same : new.ghost_name ≡ old.ghost_name
+  pub long : length new.now ≡ length old.now
 
 -- a text is put at a place; what stands before it and after it is kept
 pub record Puts (at : ℕ) (text old : List ℕ) (end : ℕ) (new : List ℕ) : Type 0 where

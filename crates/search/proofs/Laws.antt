@@ -9,6 +9,7 @@ pub mod Farthest
 pub mod Entered
 pub mod Chosen
 pub mod Searched
+pub mod Some
 pub mod Places
 pub mod Pivoted
 pub mod Laid

@@ -1,12 +1,11 @@
 -- Bounds under pivots, and the sources that pivots join to a target, from the numbers of each pivot: `onward` has the arrival at each
 -- stop from it, `into` a number that is not 0 for each stop that reaches it in time.
-use Rattle.std.specs.Prelude.{ℕ, ◌≤◌, ◌<◌, ◌≡◌, Bool, not, ◌&&◌, cond, List, ◌++◌, eqb, length, get_or, drop, fold}
-use Rattle.std.specs.List.{list_any}
+use Rattle.std.specs.Prelude.{ℕ, ◌≤◌, ◌<◌, ◌≡◌, Bool, not, ◌&&◌, cond, List, ◌++◌, eqb, length, get_or, drop, max, map, filter, unwrap_or}
+use Rattle.std.specs.List.{list_any, reduce}
 use Rattle.rules.specs.Words.{At, things_from}
 use Rattle.rules.specs.Pivots.{Pivot}
 use Rattle.passes.specs.Forward.{nowhere}
 use Rattle.search.specs.declared.pivots.PivotNumbers.{PivotNumbers}
-use Rattle.search.specs.Bounds.{later_of}
 
 -- the first n numbers of each list are the pivot's own
 pub record Numbered (n : ℕ) (out back : List ℕ) (x : PivotNumbers) : Type 0 where
@@ -28,13 +27,9 @@ pub record PivotsLaid (n : ℕ) (pivots : List Pivot) (onward into : Pivot → L
   pub laid : (i : ℕ) (p : Pivot) (x : PivotNumbers) → At pivots i p → At old i x → At new i (numbers_over n (onward p) (into p) x)
   pub kept : (i : ℕ) (x : PivotNumbers) → length pivots ≤ i → At old i x → At new i x
 
--- the later of a bound and the number under one pivot more, where that pivot reaches the stop
-unfoldable pub with_pivot : (bound number : ℕ) → ℕ
-with_pivot bound number = cond (eqb number nowhere) bound (later_of bound number)
-
--- the greatest bound of v over the pivots that reach it
+-- the greatest bound of v over the pivots that reach it, or nowhere
 unfoldable pub bound_under : List PivotNumbers → (v : ℕ) → ℕ
-bound_under pivots v = fold (λ bound x. with_pivot bound (get_or x.onward v 0)) nowhere pivots
+bound_under pivots v = unwrap_or (reduce max (filter (λ x. not (eqb x nowhere)) (map (λ p. get_or p.onward v 0) pivots))) nowhere
 
 abbrev pub bounds_under : List PivotNumbers → (n : ℕ) → List ℕ
 bounds_under pivots n = things_from (bound_under pivots) n 0

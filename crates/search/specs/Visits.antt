@@ -1,5 +1,6 @@
 -- The search as its state goes from visit to visit.
-use Rattle.std.specs.Prelude.{ℕ, zero, suc, ◌+◌, Bool, cond, List, leb, Option, Some, None}
+use Rattle.std.specs.Prelude.{ℕ, zero, suc, ◌+◌, Bool, cond, List, leb}
+use Rattle.std.specs.Option.{option_map_or}
 use Rattle.search.specs.declared.far.Far.{Far}
 use Rattle.search.specs.declared.targets.Place.{Place}
 use Rattle.search.specs.declared.state.Search.{Search}
@@ -20,14 +21,8 @@ visited v x st =
 abbrev pub stops_at : (bound best : ℕ) → Bool
 stops_at bound best = leb bound best
 
--- a search goes on with the next target, or ends
-abbrev pub on_next : Option Place → Search → (Place → Search) → Search
-on_next None st more = st
-on_next (Some p) st more = more p
-
--- at most k visits more, of the targets after `last`; far v is the farthest source of v
+-- at most k visits more, of the targets after `last`, or until no target is left; far v is the farthest source of v
 unfoldable pub searched : (far : ℕ → Far) (bs : List ℕ) (n k : ℕ) (last : Place) → Search → Search
 searched far bs n zero last st = st
 searched far bs n (suc k) last st =
-    on_next (next_in bs last n) st
-    (λ p. cond (stops_at p.bound.0 st.best) st (searched far bs n k p (visited p.stop (far p.stop) st)))
+    option_map_or (λ p. cond (stops_at p.bound.0 st.best) st (searched far bs n k p (visited p.stop (far p.stop) st))) (next_in bs last n) st

@@ -7,7 +7,7 @@ ghost use Rattle.search.specs.Bounds.{later_of, bounds_of};
 use passes::{Leg, UNREACHED};
 
 // The later of a bound, if there is one, and another arrival.
-pub fn later(bound: u32, arrive: u32) -> u32
+fn later(bound: u32, arrive: u32) -> u32
     ensures { result ≡ later_of bound arrive }
 {
     if bound == UNREACHED {

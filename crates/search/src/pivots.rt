@@ -1,9 +1,8 @@
 // Pivots: the bounds of targets under them, and the sources that they join to a target.
 ghost use Rattle.std.specs.Prelude.{◌≡◌, ◌++◌, ◌≤◌, ◌<◌, length, drop};
 ghost use Rattle.rules.specs.Day.{most_stops};
-ghost use Rattle.search.specs.Pivots.{with_pivot, bound_under, bounds_under, joinsb, joinedb, kept_joined};
+ghost use Rattle.search.specs.Pivots.{bound_under, bounds_under, joinsb, joinedb, kept_joined};
 
-use crate::entries::later;
 use passes::UNREACHED;
 
 // A pivot's number for each stop: the arrival onward from it, unreached where there is none, and one that is not 0 where the stop
@@ -14,24 +13,26 @@ pub struct PivotNumbers {
     pub into: [u32; 256],
 }
 
-// The later of a stop's bound so far and its number under one pivot more, where that pivot reaches it.
-#[tactic(auto, unfolding(crate::specs::Pivots::with_pivot))]
-fn with_pivot(bound: u32, number: u32) -> u32
-    ensures { result ≡ with_pivot bound number }
-{
-    if number == UNREACHED {
-        return bound;
-    }
-    later(bound, number)
+impl PivotNumbers {
+    // What a room for a pivot's numbers holds before they are laid out.
+    pub const BLANK: PivotNumbers = PivotNumbers {
+        onward: [0; 256],
+        into: [0; 256],
+    };
 }
 
-// The greatest bound of stop v over the pivots that reach it.
+// The greatest bound of stop v over the pivots that reach it, or unreached.
 #[tactic(auto, unfolding(crate::specs::Pivots::bound_under))]
 fn bound_under(pivots: &[PivotNumbers], v: usize) -> u32
     requires { v < most_stops }
     ensures { result ≡ bound_under pivots.now v }
 {
-    pivots.iter().fold(UNREACHED, |bound, pivot| with_pivot(bound, pivot.onward[v]))
+    pivots
+        .iter()
+        .map(|pivot| pivot.onward[v])
+        .filter(|&number| number != UNREACHED)
+        .max()
+        .unwrap_or(UNREACHED)
 }
 
 // The bounds of n stops under the pivots, unreached where no pivot reaches the stop.

@@ -1,6 +1,6 @@
 -- What the lines of the input do: what is known after each, and what it prints.
-use Rattle.std.specs.Prelude.{ℕ, ◌*◌, ◌<◌, ◌≡◌, List, [], ◌∷◌, ◌++◌, length, get_or}
-use Rattle.std.proofs.Math.Option.{Option, none, some}
+use Rattle.std.specs.Prelude.{ℕ, ◌*◌, ◌<◌, ◌≡◌, Option, Some, None, List, [], ◌∷◌, ◌++◌, length, get_or}
+use Rattle.std.proofs.Math.Nat.{ℕ_set}
 use Rattle.rules.specs.Day.{most_rows, row_width}
 use Rattle.rules.specs.Pivots.{most_pivots}
 use Rattle.rules.specs.Lent.{scratch_places}
@@ -18,10 +18,10 @@ pub record Known : Type 0 where
   pub pivots : List ℕ
 
 abbrev pub nothing : Known
-nothing = record { stops = none; rows = []; pivots = [] }
+nothing = record { stops = None; rows = []; pivots = [] }
 
 abbrev pub with_stops : Known → (n : ℕ) → Known
-with_stops t n = record { stops = some n; rows = t.rows; pivots = t.pivots }
+with_stops t n = record { stops = Some n; rows = t.rows; pivots = t.pivots }
 
 abbrev pub with_row : Known → (row : List ℕ) → Known
 with_row t row = record { stops = t.stops; rows = t.rows ++ row; pivots = t.pivots }
@@ -38,6 +38,9 @@ pub record Zeros (k : ℕ) (xs : List ℕ) : Type 0 where
   pub long : length xs ≡ k
   pub zeros : (i : ℕ) → get_or xs i 0 ≡ 0
 
+pub zeros_prop : (k : ℕ) (xs : List ℕ) → IsProp (Zeros k xs)
+zeros_prop k xs = λ a b i. record { long = ℕ_set _ _ a.long b.long i; zeros = λ j. ℕ_set _ _ (a.zeros j) (b.zeros j) i }
+
 -- the text is the line of an answer to the ask over the rows and pivots read so far, with scratch of zeros
 pub record Answered (t : Known) (n asker A W : ℕ) (text : List ℕ) : Type 0 where
   pub answer : Answer
@@ -49,12 +52,12 @@ pub record Answered (t : Known) (n asker A W : ℕ) (text : List ℕ) : Type 0 w
 
 -- what a frame does: the number of stops comes first and once, a row and a pivot have their limits, and an ask prints its answer
 pub data Does (t : Known) : Frame → Known → (text : List ℕ) → Type 0 where
-  stops : {n : ℕ} → t.stops ≡ none → Does t (frame.Stops n) (with_stops t n) []
-  row : {n from to start travel owner : ℕ} → t.stops ≡ some n → length t.rows < most_rows * row_width
+  stops : {n : ℕ} → t.stops ≡ None → Does t (frame.Stops n) (with_stops t n) []
+  row : {n from to start travel owner : ℕ} → t.stops ≡ Some n → length t.rows < most_rows * row_width
       → Does t (frame.Row from to start travel owner) (with_row t (from ∷ to ∷ start ∷ travel ∷ owner ∷ [])) []
-  pivot : {n stop reading : ℕ} → t.stops ≡ some n → length t.pivots < most_pivots * pivot_width
+  pivot : {n stop reading : ℕ} → t.stops ≡ Some n → length t.pivots < most_pivots * pivot_width
       → Does t (frame.Pivot stop reading) (with_pivot t (stop ∷ reading ∷ [])) []
-  asks : {n asker A W : ℕ} {text : List ℕ} → t.stops ≡ some n → Answered t n asker A W text → Does t (frame.Ask asker A W) t text
+  asks : {n asker A W : ℕ} {text : List ℕ} → t.stops ≡ Some n → Answered t n asker A W text → Does t (frame.Ask asker A W) t text
 
 -- what a line does is what the frame does that it is the text of
 pub record Tells (t : Known) (line : List ℕ) (t' : Known) (text : List ℕ) : Type 0 where

@@ -2,6 +2,4 @@ pub mod Known
 pub mod Stream
 pub mod Pieces
 pub mod Room
-pub mod Days
-pub mod Steps
 pub mod Laws

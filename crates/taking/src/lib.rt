@@ -5,5 +5,4 @@ mod lines;
 mod state;
 mod take;
 
-pub use lines::take_read;
-pub use state::{Buffer, Day, LONGEST, Line, List, OUT_ROOM, Out, Pivots, Scratch, Step};
+pub use state::{Day, Desk, OUT_ROOM, Out};

@@ -1,154 +1,104 @@
 // Lines of the input, however it comes in pieces.
-ghost use Rattle.std.specs.Prelude.{◌≡◌, [], ◌∷◌, length};
-ghost use Rattle.rules.specs.Lent.{scratch_places};
-ghost use Rattle.taking.specs.Known.{Zeros};
-ghost use Rattle.taking.specs.Pieces.{longest};
-ghost use Rattle.taking.specs.Room.{most_bytes, InRoom, Ahead, Spare, Roomy, LineTaken, PieceTaken, EndTaken, Moved, ReadTaken};
+ghost use Rattle.std.specs.Prelude.{◌≡◌, ◌≤◌, IfSome, [], ◌∷◌, length};
+ghost use Rattle.printing.specs.Lines.{frame_words};
+ghost use Rattle.printing.specs.Parts.{PutsLine};
+ghost use Rattle.taking.specs.Room.{most_bytes, Ahead, Spare, LineTaken, PieceTaken, EndTaken, ReadTaken};
 
-use crate::state::{Buffer, Day, LONGEST, Line, List, Next, Out, Pivots, Scratch, Step};
-use crate::take::take_frame;
+use crate::state::{Desk, LONGEST};
 use printing::frame_line;
+use std::ops::ControlFlow;
 
-// The line whose bytes stand in the first places of `line`.
-fn take_line(
-    line: &Line,
-    list: &mut List,
-    pivots: &mut Pivots,
-    scratch: &mut Scratch,
-    out: &mut Out,
-    day: Day,
-) -> Step
-    requires in_room { InRoom day }
-    requires spare { Spare 1 day }
-    requires zeros { Zeros scratch_places scratch.old }
-    requires roomy { Roomy list.old pivots.old }
-    requires line_len { length line.now ≡ longest }
-    ensures line_taken { LineTaken day line.now list.old pivots.old out.old result list.new pivots.new out.new }
-    ensures zeros_2 { Zeros scratch_places scratch.new }
-{
-    let len = day.len;
-    let whole = &line[..];
-    let frame = frames::read_frame(&whole[0..len]);
-    match take_frame(frame, list, pivots, scratch, out, day) {
-        Next::Go(next) => Step::Go(next.on_next_line()),
-        Next::Stop => Step::Stop(frame_line(out, day.made, day.line)),
+impl Desk {
+    // Names the line, which is no frame. The answer is how many bytes are to print.
+    fn name_line(&mut self) -> usize
+        requires spare { Spare 1 self.old.day }
+        ensures named { PutsLine (frame_words self.old.day.line) self.old.day.made self.old.out result self.new.out }
+        ensures same_list { self.new.list ≡ self.old.list }
+        ensures same_pivots { self.new.pivots ≡ self.old.pivots }
+    {
+        frame_line(&mut self.out, self.day.made, self.day.line)
     }
-}
 
-// One byte of the input. A line longer than any frame ends the run at its first byte too many.
-fn take_byte(
-    b: u8,
-    line: &mut Line,
-    list: &mut List,
-    pivots: &mut Pivots,
-    scratch: &mut Scratch,
-    out: &mut Out,
-    day: Day,
-) -> Step
-    requires in_room { InRoom day }
-    requires spare { Spare 1 day }
-    requires zeros { Zeros scratch_places scratch.old }
-    requires roomy { Roomy list.old pivots.old }
-    requires line_len { length line.old ≡ longest }
-    ensures piece_taken { PieceTaken (b ∷ []) day.made day line.old list.old pivots.old out.old result line.new list.new pivots.new out.new }
-    ensures zeros_2 { Zeros scratch_places scratch.new }
-{
-    if b == b'\n' {
-        return take_line(line, list, pivots, scratch, out, day);
-    }
-    let len = day.len;
-    if len >= LONGEST {
-        return Step::Stop(frame_line(out, day.made, day.line));
-    }
-    line[len] = b;
-    Step::Go(day.with_len(len + 1))
-}
-
-// One piece of the input. What it prints is put at the front of `out`.
-pub fn take_bytes(
-    bytes: &[u8],
-    line: &mut Line,
-    list: &mut List,
-    pivots: &mut Pivots,
-    scratch: &mut Scratch,
-    out: &mut Out,
-    day: Day,
-) -> Step
-    requires in_room { InRoom day }
-    requires ahead { Ahead (length bytes.now) day }
-    requires zeros { Zeros scratch_places scratch.old }
-    requires roomy { Roomy list.old pivots.old }
-    requires line_len { length line.old ≡ longest }
-    ensures piece_taken { PieceTaken bytes.now 0 day line.old list.old pivots.old out.old result line.new list.new pivots.new out.new }
-    ensures zeros_2 { Zeros scratch_places scratch.new }
-{
-    let mut now = day.with_made(0);
-    let mut i: usize = 0;
-    while i < bytes.len() {
-        match take_byte(bytes[i], line, list, pivots, scratch, out, now) {
-            Step::Go(next) => now = next,
-            Step::Stop(made) => return Step::Stop(made),
+    // The line that was read, up to its end. Where it is no frame, the run ends with so many bytes to print.
+    #[tactic(auto, using(crate::specs::Laws::Steps::line_done))]
+    fn take_line(&mut self) -> ControlFlow<usize>
+        requires spare { Spare 1 self.old.day }
+        ensures { LineTaken self.old result self.new }
+    {
+        let Some(frame) = frames::read_frame(&self.line[..self.day.len]) else {
+            return ControlFlow::Break(self.name_line());
+        };
+        match self.take_frame(frame) {
+            Some(()) => {
+                self.day.line += 1;
+                self.day.len = 0;
+                ControlFlow::Continue(())
+            }
+            None => ControlFlow::Break(self.name_line()),
         }
-        i += 1;
     }
-    Step::Go(now)
-}
 
-// The end of the input: the last line, where it has no newline. The answer is how many bytes are to print.
-pub fn take_last(
-    line: &Line,
-    list: &mut List,
-    pivots: &mut Pivots,
-    scratch: &mut Scratch,
-    out: &mut Out,
-    day: Day,
-) -> usize
-    requires in_room { InRoom day }
-    requires ahead { Ahead 1 day }
-    requires zeros { Zeros scratch_places scratch.old }
-    requires roomy { Roomy list.old pivots.old }
-    requires line_len { length line.now ≡ longest }
-    ensures end_taken { EndTaken day line.now list.old pivots.old out.old result out.new }
-    ensures zeros_2 { Zeros scratch_places scratch.new }
-{
-    if day.len == 0 {
-        return 0;
+    // One byte of the input. A line longer than any frame ends the run at its first byte too many.
+    #[tactic(auto, using(crate::specs::Laws::Bytes::one_byte))]
+    fn take_byte(&mut self, b: u8) -> ControlFlow<usize>
+        requires spare { Spare 1 self.old.day }
+        ensures { PieceTaken (b ∷ []) self.old.day.made self.old result self.new }
+    {
+        if b == b'\n' {
+            return self.take_line();
+        }
+        let len = self.day.len;
+        if len >= LONGEST {
+            return ControlFlow::Break(self.name_line());
+        }
+        self.line[len] = b;
+        self.day.len += 1;
+        ControlFlow::Continue(())
     }
-    match take_line(line, list, pivots, scratch, out, day.with_made(0)) {
-        Step::Go(last) => last.made,
-        Step::Stop(made) => made,
-    }
-}
 
-// What one read led to: `got` is what it answered, and the bytes that it read stand at the front of `buffer`. Where it
-// failed the run ends, and a line that it cut is not taken.
-pub fn take_read(
-    got: isize,
-    buffer: &Buffer,
-    line: &mut Line,
-    list: &mut List,
-    pivots: &mut Pivots,
-    scratch: &mut Scratch,
-    out: &mut Out,
-    day: Day,
-) -> Step
-    requires moved { Moved most_bytes got }
-    requires buffer_len { length buffer.now ≡ most_bytes }
-    requires in_room { InRoom day }
-    requires ahead { Ahead most_bytes day }
-    requires zeros { Zeros scratch_places scratch.old }
-    requires roomy { Roomy list.old pivots.old }
-    requires line_len { length line.old ≡ longest }
-    ensures read_taken { ReadTaken got buffer.now day line.old list.old pivots.old out.old result line.new list.new pivots.new out.new }
-    ensures zeros_2 { Zeros scratch_places scratch.new }
-{
-    if got < 0 {
-        return Step::Stop(0);
+    // One piece of the input. What it prints is put after what was made before.
+    #[tactic(auto, using(crate::specs::Laws::Bytes::bytes_so_far))]
+    fn take_bytes(&mut self, bytes: &[u8]) -> ControlFlow<usize>
+        requires spare { Spare (length bytes.now) self.old.day }
+        ensures { PieceTaken bytes.now self.old.day.made self.old result self.new }
+    {
+        for b in bytes {
+            self.take_byte(*b)?;
+        }
+        ControlFlow::Continue(())
     }
-    let n = io::count(got, buffer);
-    if n == 0 {
-        return Step::Stop(take_last(line, list, pivots, scratch, out, day));
+
+    // The end of the input: the last line, where it has no newline. The answer is how many bytes are to print.
+    fn take_last(&mut self) -> usize
+        requires spare { Spare 1 self.old.day }
+        requires made { self.old.day.made ≡ 0 }
+        ensures { EndTaken self.old result self.new.out }
+    {
+        let at_start = self.day.len == 0;
+        if at_start {
+            return 0;
+        }
+        match self.take_line() {
+            ControlFlow::Continue(()) => self.day.made,
+            ControlFlow::Break(made) => made,
+        }
     }
-    let whole = &buffer[..];
-    take_bytes(&whole[0..n], line, list, pivots, scratch, out, day)
+
+    // What one read led to: the bytes that it read, none where the input ended. Where it failed the run ends,
+    // and a line that it cut is not taken. What it prints stands at the front of `out`.
+    #[tactic(auto, using(std::proofs::lemmas::Bool::Decides::nat_tests, crate::specs::Laws::Reads::read_piece))]
+    pub fn take_read(&mut self, read: Option<&[u8]>) -> ControlFlow<usize>
+        requires few { IfSome read (λ b. length b.now ≤ most_bytes) }
+        requires ahead { Ahead most_bytes self.old.day }
+        ensures { ReadTaken read.entry self.old result self.new }
+    {
+        let Some(bytes) = read else {
+            return ControlFlow::Break(0);
+        };
+        self.day.made = 0;
+        if bytes.is_empty() {
+            return ControlFlow::Break(self.take_last());
+        }
+        self.take_bytes(bytes)
+    }
 }

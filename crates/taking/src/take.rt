@@ -1,142 +1,95 @@
 // Frames, taken one after another: stops, rows and pivots are kept, an ask is answered.
-ghost use Rattle.std.specs.Prelude.{◌≡◌, true};
-ghost use Rattle.rules.specs.Lent.{scratch_places};
-ghost use Rattle.taking.specs.Known.{Zeros};
-ghost use Rattle.taking.specs.Room.{InRoom, Spare, Roomy, FrameTaken};
-ghost use Rattle.taking.specs.Steps.{stops_next, row_next, row_put, pivot_next, pivot_put, Asked};
+ghost use Rattle.std.specs.Prelude.{◌≡◌, ◌*◌, Some, length};
+ghost use Rattle.frames.specs.declared.frame.Frame.TheVariants.{Stops, Row, Pivot, Ask};
+ghost use Rattle.taking.specs.Room.{Spare, PutMore, FrameTaken};
 
-use crate::state::{Day, List, MOST_PIVOTS, Next, Out, PIVOT_WIDTH, Pivots, Scratch};
+use crate::state::{Desk, MOST_PIVOTS, PIVOT_WIDTH};
 use day::{MOST_ROWS, ROW_WIDTH};
 use frames::Frame;
 use printing::answer_line;
 
-// The number of stops, first and once.
-fn take_stops(day: Day, n: u32) -> Next
-    requires { InRoom day }
-    ensures { result ≡ stops_next day n }
+// Puts one thing more after `count` of them, where there is room for `most`. The answer is how many there are then.
+fn put<const WIDTH: usize>(
+    room: &mut [u32],
+    count: usize,
+    most: usize,
+    numbers: [u32; WIDTH],
+) -> Option<usize>
+    requires whole { length room.old ≡ most * WIDTH }
+    ensures { PutMore WIDTH numbers.entry count most room.old result room.new }
 {
-    if day.given {
-        return Next::Stop;
+    if count >= most {
+        return None;
     }
-    Next::Go(day.with_stops(n))
+    let at = count * WIDTH;
+    room[at..at + WIDTH].copy_from_slice(&numbers);
+    Some(count + 1)
 }
 
-fn take_row(
-    list: &mut List,
-    day: Day,
-    from: u32,
-    to: u32,
-    start: u32,
-    travel: u32,
-    owner: u32,
-) -> Next
-    requires { InRoom day }
-    ensures { (result ≡ row_next day) × (list.new ≡ row_put day from to start travel owner list.old) }
-{
-    let rows = day.rows;
-    if rows >= MOST_ROWS {
-        return Next::Stop;
+impl Desk {
+    // The number of stops, first and once.
+    #[tactic(auto, using(crate::specs::Laws::Steps::stops_done))]
+    fn take_stops(&mut self, n: u32) -> Option<()>
+        ensures { FrameTaken (Stops n) self.old result self.new }
+    {
+        if self.day.stops.is_some() {
+            return None;
+        }
+        self.day.stops = Some(n);
+        Some(())
     }
-    let at = rows * ROW_WIDTH;
-    list[at] = from;
-    list[at + 1] = to;
-    list[at + 2] = start;
-    list[at + 3] = travel;
-    list[at + 4] = owner;
-    Next::Go(day.with_rows(rows + 1))
-}
 
-fn take_pivot(pivots: &mut Pivots, day: Day, p: u32, s: u32) -> Next
-    requires { InRoom day }
-    ensures { (result ≡ pivot_next day) × (pivots.new ≡ pivot_put day p s pivots.old) }
-{
-    let count = day.pivots;
-    if count >= MOST_PIVOTS {
-        return Next::Stop;
+    #[tactic(auto, using(crate::specs::Laws::Steps::row_done))]
+    fn take_row(&mut self, from: u32, to: u32, start: u32, travel: u32, owner: u32) -> Option<()>
+        ensures { FrameTaken (Row from to start travel owner) self.old result self.new }
+    {
+        self.day.stops?;
+        let row = [from, to, start, travel, owner];
+        self.day.rows = put(&mut self.list, self.day.rows, MOST_ROWS, row)?;
+        Some(())
     }
-    let at = count * PIVOT_WIDTH;
-    pivots[at] = p;
-    pivots[at + 1] = s;
-    Next::Go(day.with_pivots(count + 1))
-}
 
-fn take_ask(
-    list: &List,
-    pivots: &Pivots,
-    scratch: &mut Scratch,
-    out: &mut Out,
-    day: Day,
-    asker: u32,
-    a: u32,
-    w: u32,
-) -> Next
-    requires in_room { InRoom day }
-    requires spare { Spare 1 day }
-    ensures { Asked day asker a w list.now pivots.now scratch.old out.old result scratch.new out.new }
-{
-    let end = day.rows * ROW_WIDTH;
-    let last = day.pivots * PIVOT_WIDTH;
-    let n = day.n;
-    let at = day.made;
-    let rows = &list[..];
-    let pairs = &pivots[..];
-    let answer = figures::pivot_diameter(&rows[0..end], n, asker, a, w, &pairs[0..last], scratch);
-    let made = answer_line(out, at, answer);
-    Next::Go(day.with_made(made))
-}
+    #[tactic(auto, using(crate::specs::Laws::Steps::pivot_done))]
+    fn take_pivot(&mut self, stop: u32, reading: u32) -> Option<()>
+        ensures { FrameTaken (Pivot stop reading) self.old result self.new }
+    {
+        self.day.stops?;
+        let pivot = [stop, reading];
+        self.day.pivots = put(&mut self.pivots, self.day.pivots, MOST_PIVOTS, pivot)?;
+        Some(())
+    }
 
-// A frame after the number of stops.
-fn take_later(
-    frame: Frame,
-    list: &mut List,
-    pivots: &mut Pivots,
-    scratch: &mut Scratch,
-    out: &mut Out,
-    day: Day,
-) -> Next
-    requires in_room { InRoom day }
-    requires spare { Spare 1 day }
-    requires zeros { Zeros scratch_places scratch.old }
-    requires roomy { Roomy list.old pivots.old }
-    requires given_value { day.given ≡ true }
-    ensures frame_taken { FrameTaken frame day list.old pivots.old out.old result list.new pivots.new out.new }
-    ensures zeros_2 { Zeros scratch_places scratch.new }
-{
-    match frame {
-        Frame::Row {
-            from,
-            to,
-            start,
-            travel,
-            owner,
-        } => take_row(list, day, from, to, start, travel, owner),
-        Frame::Pivot { stop, reading } => take_pivot(pivots, day, stop, reading),
-        Frame::Ask { asker, a, w } => take_ask(list, pivots, scratch, out, day, asker, a, w),
-        _ => Next::Stop,
+    #[tactic(auto, using(crate::specs::Laws::Steps::ask_done, crate::specs::Laws::Steps::wiped_zeros))]
+    fn take_ask(&mut self, asker: u32, a: u32, w: u32) -> Option<()>
+        requires spare { Spare 1 self.old.day }
+        ensures { FrameTaken (Ask asker a w) self.old result self.new }
+    {
+        let n = self.day.stops?;
+        let end = self.day.rows * ROW_WIDTH;
+        let last = self.day.pivots * PIVOT_WIDTH;
+        let list = &self.list[..end];
+        let ask = figures::Ask { list, n, asker, a, w };
+        let answer = ask.pivot_diameter(&self.pivots[..last], &mut self.scratch);
+        self.day.made = answer_line(&mut self.out, self.day.made, answer);
+        Some(())
     }
-}
 
-// What one line holds.
-pub fn take_frame(
-    frame: Frame,
-    list: &mut List,
-    pivots: &mut Pivots,
-    scratch: &mut Scratch,
-    out: &mut Out,
-    day: Day,
-) -> Next
-    requires in_room { InRoom day }
-    requires spare { Spare 1 day }
-    requires zeros { Zeros scratch_places scratch.old }
-    requires roomy { Roomy list.old pivots.old }
-    ensures frame_taken { FrameTaken frame day list.old pivots.old out.old result list.new pivots.new out.new }
-    ensures zeros_2 { Zeros scratch_places scratch.new }
-{
-    if let Frame::Stops(n) = frame {
-        return take_stops(day, n);
+    // What one line holds; none where it can't be taken.
+    pub(crate) fn take_frame(&mut self, frame: Frame) -> Option<()>
+        requires spare { Spare 1 self.old.day }
+        ensures { FrameTaken frame self.old result self.new }
+    {
+        match frame {
+            Frame::Stops(n) => self.take_stops(n),
+            Frame::Row {
+                from,
+                to,
+                start,
+                travel,
+                owner,
+            } => self.take_row(from, to, start, travel, owner),
+            Frame::Pivot { stop, reading } => self.take_pivot(stop, reading),
+            Frame::Ask { asker, a, w } => self.take_ask(asker, a, w),
+        }
     }
-    if !day.given {
-        return Next::Stop;
-    }
-    take_later(frame, list, pivots, scratch, out, day)
 }

@@ -1,8 +1,9 @@
 -- Which bytes are digits.
 use Rattle.std.specs.Prelude.{ℕ, ◌+◌, ◌-◌, ◌≤◌, ◌<◌, ◌≡◌, refl, Bool, true, false, cond, ◌&&◌, leb, ltb}
-use Rattle.std.proofs.Common.{arith, ltb-true, ltb-false, leb-true, leb-false, le-leb, lt-ltb, le-ltb}
+use Rattle.std.proofs.Common.{arith, inl, inr, ltb-true, ltb-false, leb-true, leb-false, le-leb, lt-ltb, le-ltb}
 use Rattle.std.proofs.Math.Bool.{and-false}
 use Rattle.std.proofs.lemmas.Bool.{lt-leb}
+use Rattle.std.specs.Char.{IsAsciiHexdigit, IsNotAsciiHexdigit}
 use Rattle.frames.specs.Parts.{DigitOf, IsDigit}
 
 pub figure : (b : ℕ) → 48 ≤ b → b ≤ 57 → DigitOf b (b - 48)
@@ -39,3 +40,13 @@ ranges b (d, h) = go (leb 65 b) refl (leb b 90) refl (ltb d 10) refl h.same
     go false e true f false g s = omega (arith, h.below, leb-true, leb-false, ltb-true, ltb-false)
     go false e false f true g s = omega (arith, h.below, leb-true, leb-false, ltb-true, ltb-false)
     go false e false f false g s = omega (arith, h.below, leb-true, leb-false, ltb-true, ltb-false)
+
+-- the library's class of bytes is that of the digits
+
+pub digit_from_class : (b : ℕ) → IsAsciiHexdigit b → IsDigit b
+digit_from_class b (inl (inl h)) = (_, figure b h.0 h.1)
+digit_from_class b (inl (inr h)) = (_, capital b h.0 h.1)
+digit_from_class b (inr h) = (_, letter b h.0 h.1)
+
+pub no_digit : (b : ℕ) → IsNotAsciiHexdigit b → IsDigit b → ⊥
+no_digit b h d = let r = ranges b d in omega arith

@@ -1,8 +1,8 @@
 -- Numbers at places of a line.
-use Rattle.std.specs.Prelude.{ℕ, ◌+◌, ◌*◌, ◌/◌, ◌%◌, ◌^◌, ◌≤◌, ◌<◌, ◌≡◌, refl, List, map, length, get_or, drop}
+use Rattle.std.specs.Prelude.{ℕ, ◌+◌, ◌-◌, ◌*◌, ◌/◌, ◌%◌, ◌^◌, ◌≤◌, ◌<◌, ◌≡◌, refl, List, map, length, get_or, take, drop}
 use Rattle.std.proofs.Common.{pow-suc, add-one, arith, sym, ◌∙◌, length-drop, take-suc, get_or-drop}
 use Rattle.std.proofs.Math.Nat.{pow-le-pow_right}
-use Rattle.std.proofs.lemmas.List.{length-map}
+use Rattle.std.proofs.lemmas.List.{length-map, get_or-take}
 use Rattle.std.proofs.Math.ListN.{get_or-map}
 use Rattle.frames.specs.Text.{digit, digits, small}
 use Rattle.frames.specs.Parts.{DigitOf, NumberAt}
@@ -30,5 +30,13 @@ pub number_below : (line : List ℕ) (at i x m : ℕ) → NumberAt line at i x �
 number_below line at i x m n h =
     let p : 16 ^ i ≤ 16 ^ m = pow-le-pow_right {n = 16} (omega arith) h in omega (arith, n.fits)
 
+-- a number of fewer than eight digits has room for one more
+pub number_room : {line : List ℕ} {at i x : ℕ} → NumberAt line at i x → i < 8 → x < 16 ^ 7
+number_room {line} {at} {i} {x} n h = number_below line at i x 7 n (omega arith)
+
 pub number_same : (line : List ℕ) (at k x y : ℕ) → NumberAt line at k x → NumberAt line at k y → x ≡ y
 number_same line at k x y n m = digits_same k x y n.fits m.fits (sym n.spelt ∙ m.spelt)
+
+-- a place of a part of a line is a place of the line
+pub part_place : (line : List ℕ) (at k i : ℕ) → i < k → get_or (take (at + k - at) (drop at line)) i 0 ≡ get_or line (at + i) 0
+part_place line at k i h = get_or-take (at + k - at) (drop at line) i 0 (omega arith) ∙ get_or-drop at line i 0

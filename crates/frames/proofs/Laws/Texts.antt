@@ -1,11 +1,12 @@
 -- A frame's text by its fields' places.
-use Rattle.std.specs.Prelude.{ℕ, zero, suc, ◌+◌, ◌/◌, ◌%◌, ◌≤◌, ◌<◌, ◌≡◌, refl, cond, List, [], ◌∷◌, ◌++◌, map, eqb, length, get_or, take, drop}
+use Rattle.std.specs.Prelude.{ℕ, zero, suc, ◌+◌, ◌/◌, ◌%◌, ◌<◌, ◌≡◌, refl, cond, List, [], ◌∷◌, ◌++◌, map, All, eqb, length, get_or, take, drop}
 use Rattle.std.proofs.Common.{arith, sym, ap, ◌∙◌, length-append, take-append-drop, take_at, drop-drop}
 use Rattle.std.proofs.lemmas.List.{length-map}
+use Rattle.std.proofs.lemmas.List.Elements.{All-nil, All-push, All-append}
 use Rattle.std.proofs.Math.ListN.{get_or-map}
 use Rattle.std.proofs.Math.Seq.{drop-length}
 use Rattle.frames.specs.declared.frame.Frame.{Frame}
-use Rattle.frames.specs.declared.frame.Frame.TheVariants.{Stops, Row, Pivot, Ask, Nothing}
+use Rattle.frames.specs.declared.frame.Frame.TheVariants.{Stops, Row, Pivot, Ask}
 use Rattle.frames.specs.Text.{digit, digits, Field, two, type_of, fields_of, spell, FieldsFit, text_of, small, IsTextOf}
 use Rattle.frames.specs.Parts.{AllDigits, NumberAt}
 use Rattle.frames.proofs.Laws.Digits.{digits_length}
@@ -25,11 +26,11 @@ stand_spelt line at (f ∷ fs) (n, rest) =
     ((n.fits, t.0), sym (take-append-drop f.width l) ∙ ap (λ (p : List ℕ). p ++ drop f.width l) n.spelt ∙ ap (λ (q : List ℕ). digits f.width f.number ++ q) after)
 
 -- a line that begins with a frame's type and goes on with its fields
-pub stand_text : (f : Frame) (line : List ℕ) → 1 ≤ type_of f → NumberAt line 0 2 (type_of f) → Stand line 2 (fields_of f) → IsTextOf f line
+pub stand_text : (f : Frame) (line : List ℕ) → NumberAt line 0 2 (type_of f) → Stand line 2 (fields_of f) → IsTextOf f line
 unfolding Stand FieldsFit spell
-stand_text f line h n s =
+stand_text f line n s =
     let t = stand_spelt line 0 (two (type_of f) ∷ fields_of f) (n, s) in
-    record { frame = h; fit = t.0.1; spelt = t.1 }
+    record { fit = t.0.1; spelt = t.1 }
 
 -- Three laws of any frame's text: it begins with the type, its length goes by the type, its bytes are digits.
 
@@ -38,7 +39,6 @@ type_below (Stops n) = omega arith
 type_below (Row from to start travel owner) = omega arith
 type_below (Pivot stop reading) = omega arith
 type_below (Ask asker a w) = omega arith
-type_below Nothing = omega arith
 
 pub text_type : (f : Frame) (line : List ℕ) → IsTextOf f line → NumberAt line 0 2 (type_of f)
 unfolding spell
@@ -61,7 +61,6 @@ frame_widths (Stops n) = refl
 frame_widths (Row from to start travel owner) = refl
 frame_widths (Pivot stop reading) = refl
 frame_widths (Ask asker a w) = refl
-frame_widths Nothing = refl
 
 unfoldable pub total : List ℕ → ℕ
 total [] = 0
@@ -77,34 +76,21 @@ unfolding total
 text_length f line t =
     sym (length-map line small) ∙ ap length t.spelt ∙ spell_length (two (type_of f) ∷ fields_of f) ∙ ap (λ (ws : List ℕ). 2 + total ws) (frame_widths f)
 
-abbrev Each : (P : ℕ → Type 0) → List ℕ → Type 0
-Each P xs = (i : ℕ) → i < length xs → P (get_or xs i 0)
-
-each_append : (P : ℕ → Type 0) (xs ys : List ℕ) → Each P xs → Each P ys → Each P (xs ++ ys)
-each_append P [] ys p q zero h = q 0 h
-each_append P [] ys p q (suc i) h = q (suc i) h
-each_append P (x ∷ xs) ys p q zero h = p 0 (omega arith)
-each_append P (x ∷ xs) ys p q (suc i) h = each_append P xs ys (λ j l. p (suc j) (omega arith)) q i (omega arith)
-
 abbrev Small : (b : ℕ) → Type 0
 Small b = (d : ℕ) × (d < 16) × (b ≡ digit d)
 
-digits_small : (k x : ℕ) → Each Small (digits k x)
+digits_small : (k x : ℕ) → All Small (digits k x)
 unfolding digits
-digits_small zero x = λ i h. absurd (omega arith)
-digits_small (suc k) x = each_append Small (digits k (x / 16)) (digit (x % 16) ∷ []) (digits_small k (x / 16)) one
-  where
-    one : Each Small (digit (x % 16) ∷ [])
-    one zero h = (x % 16, omega arith, refl)
-    one (suc i) h = absurd (omega arith)
+digits_small zero x = All-nil Small
+digits_small (suc k) x = All-push Small (digits k (x / 16)) (digit (x % 16)) (digits_small k (x / 16)) (x % 16, omega arith, refl)
 
-spell_small : (fs : List Field) → Each Small (spell fs)
+spell_small : (fs : List Field) → All Small (spell fs)
 unfolding spell
-spell_small [] = λ i h. absurd (omega arith)
-spell_small (f ∷ fs) = each_append Small (digits f.width f.number) (spell fs) (digits_small f.width f.number) (spell_small fs)
+spell_small [] = All-nil Small
+spell_small (f ∷ fs) = All-append Small (digits f.width f.number) (spell fs) (digits_small f.width f.number) (spell_small fs)
 
 pub text_digits : (f : Frame) (line : List ℕ) → IsTextOf f line → AllDigits line
-text_digits f line t i h =
+text_digits f line t i e h =
     let n : i < length (text_of f) = rw (sym t.spelt) (omega (arith, length-map line small)) in
-    let d = spell_small (two (type_of f) ∷ fields_of f) i n in
-    (d.0, record { below = d.1; same = sym (get_or-map small line i 0) ∙ ap (λ (l : List ℕ). get_or l i 0) t.spelt ∙ d.2 })
+    let d = spell_small (two (type_of f) ∷ fields_of f) i (small e) n in
+    (d.0, record { below = d.1; same = sym (get_or-map small line i e) ∙ ap (λ (l : List ℕ). get_or l i (small e)) t.spelt ∙ d.2 })

@@ -1,8 +1,8 @@
 -- A line reads as one thing alone.
-use Rattle.std.specs.Prelude.{ℕ, ◌^◌, ◌<◌, ◌≡◌, refl, ◌⊎◌, List, [], ◌∷◌}
+use Rattle.std.specs.Prelude.{ℕ, ◌^◌, ◌<◌, ◌≡◌, refl, ◌⊎◌, Option, Some, None, List, [], ◌∷◌}
 use Rattle.std.proofs.Common.{arith, sym, ap, ◌∙◌, inl, inr}
 use Rattle.frames.specs.declared.frame.Frame.{Frame}
-use Rattle.frames.specs.declared.frame.Frame.TheVariants.{Stops, Row, Pivot, Ask, Nothing}
+use Rattle.frames.specs.declared.frame.Frame.TheVariants.{Stops, Row, Pivot, Ask}
 use Rattle.frames.specs.Text.{digits, Field, type_of, fields_of, spell, FieldsFit, IsTextOf, ReadPromise}
 use Rattle.frames.proofs.Laws.Digits.{digits_length, digits_same, split_same}
 use Rattle.frames.proofs.Laws.Places.{number_same}
@@ -31,21 +31,20 @@ fields_same (f ∷ fs) (g ∷ gs) w (pf, pfs) (pg, pgs) e =
     rw (one, rest)
 
 -- a frame by its fields alone
-frame_of : List Field → Frame
-frame_of [] = Nothing
-frame_of (n ∷ []) = Stops n.number
-frame_of (stop ∷ reading ∷ []) = Pivot stop.number reading.number
-frame_of (asker ∷ a ∷ w ∷ []) = Ask asker.number a.number w.number
-frame_of (from ∷ to ∷ start ∷ travel ∷ []) = Nothing
-frame_of (from ∷ to ∷ start ∷ travel ∷ owner ∷ rest) = Row from.number to.number start.number travel.number owner.number
+frame_of : List Field → Option Frame
+frame_of [] = None
+frame_of (n ∷ []) = Some (Stops n.number)
+frame_of (stop ∷ reading ∷ []) = Some (Pivot stop.number reading.number)
+frame_of (asker ∷ a ∷ w ∷ []) = Some (Ask asker.number a.number w.number)
+frame_of (from ∷ to ∷ start ∷ travel ∷ []) = None
+frame_of (from ∷ to ∷ start ∷ travel ∷ owner ∷ rest) = Some (Row from.number to.number start.number travel.number owner.number)
 
-frame_of_lem : (f : Frame) → frame_of (fields_of f) ≡ f
+frame_of_lem : (f : Frame) → frame_of (fields_of f) ≡ Some f
 unfolding frame_of
 frame_of_lem (Stops n) = refl
 frame_of_lem (Row from to start travel owner) = refl
 frame_of_lem (Pivot stop reading) = refl
 frame_of_lem (Ask asker a w) = refl
-frame_of_lem Nothing = refl
 
 -- at most one frame fits a line
 pub text_unique : (line : List ℕ) (f g : Frame) → IsTextOf f line → IsTextOf g line → f ≡ g
@@ -55,22 +54,18 @@ text_unique line f g s t =
     let w : widths (fields_of f) ≡ widths (fields_of g) = frame_widths f ∙ ap widths_for e ∙ sym (frame_widths g) in
     let after = split_same {p = digits 2 (type_of f)} {q = digits 2 (type_of g)} {r = spell (fields_of f)} {s = spell (fields_of g)} 2 (digits_length 2 (type_of f)) (digits_length 2 (type_of g)) (sym s.spelt ∙ t.spelt) in
     let same = fields_same (fields_of f) (fields_of g) w s.fit t.fit after.1 in
-    sym (frame_of_lem f) ∙ ap frame_of same ∙ frame_of_lem g
+    let one : Some f ≡ Some g = sym (frame_of_lem f) ∙ ap frame_of same ∙ frame_of_lem g in cc
 
--- a promised outcome is nothing, or a frame whose text the line is
-pub promised : (line : List ℕ) (r : Frame) → ReadPromise line r → ((r ≡ Nothing) × ((f : Frame) → IsTextOf f line → ⊥)) ⊎ IsTextOf r line
+-- a promised outcome is none, or a frame whose text the line is
+pub promised : (line : List ℕ) (r : Option Frame) → ReadPromise line r → ((r ≡ None) × ((f : Frame) → IsTextOf f line → ⊥)) ⊎ ((f : Frame) × (r ≡ Some f) × IsTextOf f line)
 unfolding ReadPromise
-promised line (Stops n) h = inr h
-promised line (Row from to start travel owner) h = inr h
-promised line (Pivot stop reading) h = inr h
-promised line (Ask asker a w) h = inr h
-promised line Nothing h = inl (refl, h)
+promised line (Some f) h = inr (f, refl, h)
+promised line None h = inl (refl, h)
 
-pub read_unique : (line : List ℕ) (r s : Frame) → ReadPromise line r → ReadPromise line s → r ≡ s
-read_unique line r s p q = go (promised line r p) (promised line s q)
-  where
-    go : ((r ≡ Nothing) × ((f : Frame) → IsTextOf f line → ⊥)) ⊎ IsTextOf r line → ((s ≡ Nothing) × ((f : Frame) → IsTextOf f line → ⊥)) ⊎ IsTextOf s line → r ≡ s
-    go (inl a) (inl b) = a.0 ∙ sym b.0
-    go (inl a) (inr b) = absurd (a.1 s b)
-    go (inr a) (inl b) = absurd (b.1 r a)
-    go (inr a) (inr b) = text_unique line r s a b
+-- a line has one promised outcome
+pub read_unique : (line : List ℕ) (r s : Option Frame) → ReadPromise line r → ReadPromise line s → r ≡ s
+unfolding ReadPromise
+read_unique line (Some f) (Some g) p q = ap Some (text_unique line f g p q)
+read_unique line (Some f) None p q = absurd (q f p)
+read_unique line None (Some g) p q = absurd (p g q)
+read_unique line None None p q = refl

@@ -22,7 +22,8 @@ use Rattle.passes.specs.Days.{rows_day}
 use Rattle.passes.proofs.Laws.Legs.{legs_good, legs_end, legs_distance_in}
 use Rattle.passes.proofs.Laws.Forward.{Found, at_once, by_route, found}
 use Rattle.passes.proofs.Laws.Distance.{since, dist, dist_right}
-use Rattle.passes.proofs.Laws.Passed.{get_d_any, passed_pass, passed_length, init_long}
+use Rattle.std.proofs.lemmas.List.{get_or_default}
+use Rattle.passes.proofs.Laws.Passed.{passed_pass, passed_length, init_long}
 
 -- before the pass no place holds less than when the rider leaves
 init_least : (a u n w : ℕ) → u < n → a ≤ nowhere → a ≤ get_or (init a u n) w nowhere
@@ -53,7 +54,7 @@ module _ (rs : List Row) (A W n : ℕ) (g : Good n rs) (wh : W ≤ horizon) (p :
   same : get_or (onward_pivot n A (legs_of A W rs) p) v 0 ≡ get_or (pass (W - A) ls (init a p.stop n)) v nowhere
   unfolding a ls
   same =
-      get_d_any (passed ls (init a p.stop n)) v 0 nowhere (omega (arith, passed_length ls (init a p.stop n), init_long a p.stop n))
+      get_or_default (passed ls (init a p.stop n)) v 0 nowhere (omega (arith, passed_length ls (init a p.stop n), init_long a p.stop n))
       ∙ ap (λ (st : List ℕ). get_or st v nowhere)
       (passed_pass (W - A) n ls (init a p.stop n) (omega arith) good (legs_end A W rs) (init_long a p.stop n))
 

@@ -1,8 +1,8 @@
 -- The pass as the code makes it, by the least of two numbers, gives the distances.
-use Rattle.std.specs.Prelude.{ℕ, zero, suc, ◌-◌, ◌≤◌, ◌<◌, min, ◌≡◌, refl, Bool, true, false, cond, ◌&&◌, eqb, leb, ltb, length, get_or, set, replicate}
+use Rattle.std.specs.Prelude.{ℕ, ◌-◌, ◌≤◌, ◌<◌, min, ◌≡◌, refl, Bool, true, false, cond, ◌&&◌, eqb, leb, ltb, length, get_or, set, replicate}
 use Rattle.std.proofs.Common.{ap, sym, ◌∙◌, arith, length-set, eqb-true, leb-true, ltb-true, ltb-false, le-leb}
 use mathlib.Core.List.{List, [], ◌∷◌, ◌++◌, Memᴰ}
-use Rattle.std.proofs.lemmas.List.{length-replicate, set-append_left, set-get_or}
+use Rattle.std.proofs.lemmas.List.{get_or_default, length-replicate, set-append_left, set-get_or}
 use Rattle.std.proofs.Math.ListN.{get_or-append}
 use Rattle.rules.specs.Clock.{horizon}
 use Rattle.rules.specs.Day.{Row, arrival}
@@ -15,12 +15,6 @@ use Rattle.passes.specs.Days.{rows_day}
 use Rattle.passes.proofs.Laws.Legs.{legs_good, legs_end, legs_distance}
 use Rattle.passes.proofs.Laws.Distance.{since, dist, dist_right}
 
--- a place in range, whatever stands for one beyond
-pub get_d_any : (xs : List ℕ) (i d e : ℕ) → i < length xs → get_or xs i d ≡ get_or xs i e
-get_d_any [] i d e l = absurd (omega arith)
-get_d_any (x ∷ xs) zero d e l = refl
-get_d_any (x ∷ xs) (suc i) d e l = get_d_any xs i d e (omega arith)
-
 relaxed_length : (st : List ℕ) (f t s a : ℕ) → length (relaxed st f t s a) ≡ length st
 relaxed_length st f t s a = length-set st t (offered (get_or st f 0) s a (get_or st t 0))
 
@@ -29,7 +23,7 @@ relaxed_step : (W : ℕ) (r : Row) (st : List ℕ) → r.from < length st → r.
     → relaxed st r.from r.to r.start (arrival r) ≡ step W r st
 unfolding step usable
 relaxed_step W r st fl tl sn aw =
-    rw (sym (get_d_any st r.from 0 nowhere fl), sym (get_d_any st r.to 0 nowhere tl), le-leb (arrival r) W aw)
+    rw (sym (get_or_default st r.from 0 nowhere fl), sym (get_or_default st r.to 0 nowhere tl), le-leb (arrival r) W aw)
     (go (eqb x nowhere) (leb x r.start) (ltb (arrival r) y) refl refl refl)
   where
     x : ℕ
@@ -116,4 +110,4 @@ passed_stands rs A W n u v g aw wh ul vl =
     e = passed_pass (W - A) n ls (init 0 u n) (omega arith) good (legs_end A W rs) (init_long 0 u n)
 
     same : get_or (passed ls (init 0 u n)) v 0 ≡ get_or (pass (W - A) ls (init 0 u n)) v nowhere
-    same = get_d_any (passed ls (init 0 u n)) v 0 nowhere (omega (arith, passed_length ls (init 0 u n), init_long 0 u n)) ∙ ap (λ (st : List ℕ). get_or st v nowhere) e
+    same = get_or_default (passed ls (init 0 u n)) v 0 nowhere (omega (arith, passed_length ls (init 0 u n), init_long 0 u n)) ∙ ap (λ (st : List ℕ). get_or st v nowhere) e

@@ -1,6 +1,6 @@
 -- The numbers of the pivots tell the bounds under them, and which sources they join to a target.
-use Rattle.std.specs.Prelude.{ℕ, zero, suc, ◌-◌, ◌≤◌, ◌<◌, ◌≡◌, ◌≢◌, ◌⊎◌, Bool, not, ◌&&◌, ◌||◌, eqb, length, get_or, fold}
-use Rattle.std.specs.List.{list_any}
+use Rattle.std.specs.Prelude.{ℕ, zero, suc, ◌-◌, ◌≤◌, ◌<◌, ◌≡◌, ◌≢◌, ◌⊎◌, Bool, not, ◌&&◌, eqb, length, get_or, max, map, filter, fold, unwrap_or}
+use Rattle.std.specs.List.{reduce}
 use native.Mathlib.Omega.{arith}
 use Rattle.std.proofs.Math.Path.{refl, ap}
 use Rattle.std.proofs.Common.{sym, ◌∙◌, inl, inr, eqb-true, eq-eqb, ne_eqb}
@@ -24,9 +24,8 @@ use Rattle.passes.specs.Days.{rows_day}
 use Rattle.passes.proofs.Laws.Distance.{since, dist}
 use Rattle.passes.proofs.Laws.Reach.{reach_back_right}
 use Rattle.passes.proofs.Laws.Onward.{onward_late, onward_is}
-use Rattle.search.specs.Bounds.{later_of}
 use Rattle.search.specs.declared.pivots.PivotNumbers.{PivotNumbers}
-use Rattle.search.specs.Pivots.{LaidOut, with_pivot, bound_under, bounds_under, joinsb, joinedb, kept_at, kept_joined}
+use Rattle.search.specs.Pivots.{LaidOut, bound_under, bounds_under, joinsb, joinedb, kept_at, kept_joined}
 use Rattle.search.proofs.Laws.Greatest.{greater, greatest_of, not_both}
 use Rattle.search.proofs.Laws.Order.{TellsBounds, tells_same}
 use Rattle.search.specs.Farthest.{farthest_in}
@@ -35,8 +34,9 @@ use Rattle.search.proofs.Laws.Visiting.{IsFar}
 use Rattle.search.proofs.Laws.Bounded.{pair_positive}
 use Rattle.search.proofs.Laws.Pairs.{from_pivot, under_of, pivot_bound_of, onward_dist, pivot_bounds_told, reached_yes, yes_reached, flip}
 use Rattle.search.specs.Found.{ReachedJoined}
-use Rattle.search.proofs.Laws.Entered.{if_bound, bound_at, later_bound, greater_none, greater_assoc}
+use Rattle.search.proofs.Laws.Entered.{if_bound, bound_at, greater_assoc}
 use Rattle.search.proofs.Laws.Places.{things_before}
+use Rattle.search.proofs.Laws.Some.{some_yes, of_some}
 
 -- thing i of a list, as pivot i of the pivots
 pub pivot_at_lem : {A : Type 0} (xs : List A) (i : ℕ) → i < length xs → (x : A) × At xs i x
@@ -48,46 +48,48 @@ pub at_of : {p : Pivot} {pivots : List Pivot} → Memᴰ p pivots → (i : ℕ) 
 at_of (Memᴰ.head {xs = ys} e) = (0, rw e at_first)
 at_of (Memᴰ.tail m) = let t = at_of m in (suc t.0, at_later t.1)
 
--- one pivot more is one more of which the greatest is taken
-with_pivot_lem : (bound number : ℕ) → if_bound (with_pivot bound number) ≡ greater (if_bound bound) (if_bound number)
-unfolding with_pivot
-with_pivot_lem bound number = go (eqb number nowhere) refl
-  where
-    go : (t : Bool) → eqb number nowhere ≡ t → if_bound (cond t bound (later_of bound number)) ≡ greater (if_bound bound) (cond t none (some number))
-    go true e = sym (greater_none (if_bound bound))
-    go false e = later_bound bound number (eqb-false number nowhere e)
+-- each pivot has for v the number that f tells, or nowhere
+abbrev Telling : (v : ℕ) (f : Pivot → Option ℕ) → List Pivot → List PivotNumbers → Type 0
+Telling v f ps xs = (i : ℕ) (p : Pivot) (x : PivotNumbers) → At ps i p → At xs i x → if_bound (get_or x.onward v 0) ≡ f p
 
--- the fold over the pivots' numbers
-fold_greatest : (v : ℕ) (f : Pivot → Option ℕ) (ps : List Pivot) (xs : List PivotNumbers) (bound : ℕ) → length xs ≡ length ps
-    → ((i : ℕ) (p : Pivot) (x : PivotNumbers) → At ps i p → At xs i x → if_bound (get_or x.onward v 0) ≡ f p)
-    → if_bound (fold (λ b x. with_pivot b (get_or x.onward v 0)) bound xs) ≡ greater (if_bound bound) (greatest_of f ps)
+-- the greatest of b and the numbers that are reached
+greatest_with : (v : ℕ) (f : Pivot → Option ℕ) (ps : List Pivot) (xs : List PivotNumbers) (b : ℕ) → b ≢ nowhere → length xs ≡ length ps → Telling v f ps xs
+    → if_bound (fold max b (filter (λ y. not (eqb y nowhere)) (map (λ x. get_or x.onward v 0) xs))) ≡ greater (some b) (greatest_of f ps)
 unfolding greatest_of
-fold_greatest v f [] [] bound e h = sym (greater_none (if_bound bound))
-fold_greatest v f [] (x ∷ xs) bound e h = absurd (omega arith)
-fold_greatest v f (p ∷ ps) [] bound e h = absurd (omega arith)
-fold_greatest v f (p ∷ ps) (x ∷ xs) bound e h =
-    fold_greatest v f ps xs (with_pivot bound (get_or x.onward v 0)) (omega arith) (λ i q y a b. h (suc i) q y (at_later a) (at_later b))
-    ∙ (ap (λ (y : Option ℕ). greater y (greatest_of f ps)) (with_pivot_lem bound (get_or x.onward v 0) ∙ ap (greater (if_bound bound)) (h 0 p x at_first at_first))
-    ∙ greater_assoc (if_bound bound) (f p) (greatest_of f ps))
-
--- a test that one of a list passes
-any_at : {A : Type 0} (test : A → Bool) (xs : List A) (i : ℕ) (x : A) → At xs i x → test x ≡ true → list_any test xs ≡ true
-any_at test [] i x m e = elim m [ ]
-any_at test (y ∷ xs) zero x at_first e = rw e
-any_at test (y ∷ xs) (suc i) x (at_later a) e = rw (any_at test xs i x a e) (or_true (test y))
+greatest_with v f [] [] b ne e h = rw (ne_eqb b nowhere ne)
+greatest_with v f [] (x ∷ xs) b ne e h = absurd (omega arith)
+greatest_with v f (p ∷ ps) [] b ne e h = absurd (omega arith)
+greatest_with v f (p ∷ ps) (x ∷ xs) b ne e h = go (eqb y nowhere) refl (h 0 p x at_first at_first) (λ c nc. greatest_with v f ps xs c nc (omega arith) (λ i q z a c. h (suc i) q z (at_later a) (at_later c)))
   where
-    or_true : (b : Bool) → b || true ≡ true
-    or_true true = refl
-    or_true false = refl
+    y : ℕ
+    y = get_or x.onward v 0
 
-at_any : {A : Type 0} (test : A → Bool) (xs : List A) → list_any test xs ≡ true → (i : ℕ) × (x : A) × At xs i x × (test x ≡ true)
-at_any test [] e = not_both e refl
-at_any {A} test (y ∷ xs) e = go (test y) refl e (at_any test xs)
+    rest : List ℕ
+    rest = filter (λ y. not (eqb y nowhere)) (map (λ x. get_or x.onward v 0) xs)
+
+    go : (t : Bool) → eqb y nowhere ≡ t → cond t none (some y) ≡ f p → ((c : ℕ) → c ≢ nowhere → if_bound (fold max c rest) ≡ greater (some c) (greatest_of f ps))
+        → if_bound (fold max b (cond (not t) (y ∷ rest) rest)) ≡ greater (some b) (greater (f p) (greatest_of f ps))
+    go true k t r = rw (← t) (r b ne)
+    go false k t r = rw (← t) (r (max b y) (omega (arith, ne, eqb-false y nowhere k)) ∙ greater_assoc (some b) (some y) (greatest_of f ps))
+
+-- the greatest of the numbers that are reached, or nowhere
+greatest_told : (v : ℕ) (f : Pivot → Option ℕ) (ps : List Pivot) (xs : List PivotNumbers) → length xs ≡ length ps → Telling v f ps xs → if_bound (bound_under xs v) ≡ greatest_of f ps
+unfolding bound_under greatest_of
+greatest_told v f [] [] e h = refl
+greatest_told v f [] (x ∷ xs) e h = absurd (omega arith)
+greatest_told v f (p ∷ ps) [] e h = absurd (omega arith)
+greatest_told v f (p ∷ ps) (x ∷ xs) e h = go (eqb y nowhere) refl (h 0 p x at_first at_first) (greatest_told v f ps xs (omega arith) (λ i q z a c. h (suc i) q z (at_later a) (at_later c)))
   where
-    go : (b : Bool) → test y ≡ b → b || list_any test xs ≡ true → (list_any test xs ≡ true → (i : ℕ) × (x : A) × At xs i x × (test x ≡ true))
-        → (i : ℕ) × (x : A) × At (y ∷ xs) i x × (test x ≡ true)
-    go true h k r = (0, y, at_first, h)
-    go false h k r = let t = r k in (suc t.0, t.1, at_later t.2, t.3)
+    y : ℕ
+    y = get_or x.onward v 0
+
+    rest : List ℕ
+    rest = filter (λ y. not (eqb y nowhere)) (map (λ x. get_or x.onward v 0) xs)
+
+    go : (t : Bool) → eqb y nowhere ≡ t → cond t none (some y) ≡ f p → if_bound (unwrap_or (reduce max rest) nowhere) ≡ greatest_of f ps
+        → if_bound (unwrap_or (reduce max (cond (not t) (y ∷ rest) rest)) nowhere) ≡ greater (f p) (greatest_of f ps)
+    go true k t r = rw (← t) r
+    go false k t r = rw (← t) (greatest_with v f ps xs y (eqb-false y nowhere k) (omega arith) (λ i q z a c. h (suc i) q z (at_later a) (at_later c)))
 
 data Joining (onward into : ℕ) : Bool → Type 0 where
   it_joins : onward ≢ nowhere → into ≢ 0 → Joining onward into true
@@ -120,7 +122,7 @@ module _ (rs : List Row) (A W n : ℕ) (g : Good n rs) (aw : A ≤ W) (wh : W �
   module _ (list : List PivotNumbers) (laid : LaidOut n pivots (onward_pivot n A (legs_of A W rs)) (into_pivot n A (legs_of A W rs)) list) where
     -- the bounds list tells the bounds, whatever stands behind them
     pub bounds_under_told : (t : List ℕ) → TellsBounds n (bound_at (bounds_under list n ++ t)) (LatestUnder (rows_day rs) A W pivots)
-    unfolding bound_at bound_under pivot_bound_of
+    unfolding bound_at pivot_bound_of
     bounds_under_told t =
         tells_same n (pivot_bound_of rs A W n pivots) (bound_at (bounds_under list n ++ t)) same (pivot_bounds_told rs A W n g aw wh pivots sit)
       where
@@ -129,8 +131,7 @@ module _ (rs : List Row) (A W n : ℕ) (g : Good n rs) (aw : A ≤ W) (wh : W �
 
         same : (v : ℕ) → v < n → bound_at (bounds_under list n ++ t) v ≡ pivot_bound_of rs A W n pivots v
         same v l =
-            ap if_bound (things_before (bound_under list) n t v l)
-            ∙ fold_greatest v (under_of rs A W n v) pivots list nowhere laid.count (one v l)
+            ap if_bound (things_before (bound_under list) n t v l) ∙ greatest_told v (under_of rs A W n v) pivots list laid.count (one v l)
 
     module _ (u v : ℕ) (un : u < n) (vn : v < n) (ne : u ≢ v) where
       -- the pivot reaches v exactly where its number is not nowhere
@@ -170,7 +171,7 @@ module _ (rs : List Row) (A W n : ℕ) (g : Good n rs) (aw : A ≤ W) (wh : W �
       joins_in j =
           let t = at_of j.listed in
           let x = pivot_at_lem list t.0 (omega (arith, laid.count, at_below t.1)) in
-          any_at (λ x. joinsb (get_or x.onward v 0) (get_or x.into u 0)) list t.0 x.0 x.1 (go t.0 x.0 t.1 x.1 (joining (get_or (x.0).onward v 0) (get_or (x.0).into u 0)))
+          some_yes (λ x. joinsb (get_or x.onward v 0) (get_or x.into u 0)) list t.0 x.0 x.1 (go t.0 x.0 t.1 x.1 (joining (get_or (x.0).onward v 0) (get_or (x.0).into u 0)))
         where
           p : Pivot
           p = j.pivot
@@ -186,7 +187,7 @@ module _ (rs : List Row) (A W n : ℕ) (g : Good n rs) (aw : A ≤ W) (wh : W �
       joined_out : joinedb list v u ≡ true → Joined (rows_day rs) A W pivots u v
       unfolding joinedb
       joined_out h =
-          let t = at_any (λ x. joinsb (get_or x.onward v 0) (get_or x.into u 0)) list h in
+          let t = of_some (λ x. joinsb (get_or x.onward v 0) (get_or x.into u 0)) list h in
           let q = pivot_at_lem pivots t.0 (omega (arith, laid.count, at_below t.2)) in
           joins_out t.0 q.0 t.1 q.1 t.2 t.3
 

@@ -1,6 +1,7 @@
 -- The search by next targets visits the targets in order, so its state at the end is right.
 use Prim.Native.Nat.{ℕ, zero, suc, ◌+◌, ◌-◌, ◌≤◌, ◌<◌}
 use Rattle.std.specs.Prelude.{◌≡◌, true, false, Option, Some, None}
+use Rattle.std.specs.Option.{option_map_or}
 use Rattle.std.proofs.Math.Path.{refl, ap, sym}
 use Rattle.std.proofs.Common.{◌∙◌, subst, inl, inr}
 use Rattle.std.proofs.Math.Bool.{cond}
@@ -21,7 +22,7 @@ use Rattle.search.specs.declared.far.Far.{Far}
 use Rattle.search.specs.declared.targets.Place.{Place}
 use Rattle.search.specs.declared.state.Search.{Search}
 use Rattle.search.specs.Targets.{before_all, next_in}
-use Rattle.search.specs.Visits.{begun, visited, stops_at, on_next, searched}
+use Rattle.search.specs.Visits.{begun, visited, stops_at, searched}
 use Rattle.search.proofs.Laws.Greatest.{some_same}
 use Rattle.search.proofs.Laws.Order.{order, order_length, order_right, TellsBounds}
 use Rattle.search.proofs.Laws.Pairs.{pair_of, pairs_told, bound_of, bounds_told, joined_pair_of, joined_pairs_told, pivot_bound_of, pivot_bounds_told}
@@ -138,7 +139,7 @@ module _ (far : ℕ → Far) (bs : List ℕ) (n : ℕ) where
     where
       go : (x : Option Place) → next_in bs last n ≡ x
           → ((ws : List ℕ) (p : Place) (s : Search) → Rest (BoundIn n bs) (Left n bs p) ws → length ws ≤ k → searched far bs n k p s ≡ run (bound_at bs) far ws s)
-          → on_next x st (λ p. cond (stops_at p.bound.0 st.best) st (searched far bs n k p (visited p.stop (far p.stop) st))) ≡ run (bound_at bs) far vs st
+          → option_map_or (λ p. cond (stops_at p.bound.0 st.best) st (searched far bs n k p (visited p.stop (far p.stop) st))) x st ≡ run (bound_at bs) far vs st
       go None e rec = let z : vs ≡ [] = none_left vs r (none_is_left bs last n e) in rw z
       go (Some p) e rec =
           let h = next_left (one_bound n bs) p.stop vs (next_is_head bs last n p e) r in

@@ -1,8 +1,7 @@
 -- Every line does something or is no frame, and every input has an output.
-use Rattle.std.specs.Prelude.{ℕ, suc, ◌*◌, ◌≤◌, ◌<◌, ◌≡◌, refl, ◌⊎◌, List, [], ◌∷◌, ◌++◌, length, get_or, replicate}
+use Rattle.std.specs.Prelude.{ℕ, Option, Some, None, suc, ◌*◌, ◌≤◌, ◌<◌, ◌≡◌, refl, ◌⊎◌, List, [], ◌∷◌, ◌++◌, length, get_or, replicate}
 use Rattle.std.proofs.Math.Decide.{dec_lt}
 use Rattle.std.proofs.Common.{subst, inl, inr, arith}
-use Rattle.std.proofs.Math.Option.{Option, none, some}
 use Rattle.std.proofs.lemmas.List.{length-replicate, get_or-replicate}
 use Rattle.std.proofs.Math.ListN.{get_or-eq_default}
 use Rattle.rules.specs.Day.{most_rows, row_width}
@@ -14,8 +13,8 @@ use Rattle.figures.specs.Promises.{ask}
 use Rattle.figures.specs.Laws.Exists.{pivot_diameter_exists}
 use Rattle.frames.specs.declared.frame.Frame.{Frame}
 use Rattle.frames.specs.declared.frame.Frame.TheVariants as frame
-use Rattle.frames.specs.Text.{type_of, IsTextOf}
-use Rattle.frames.proofs.Laws.Unique.{text_unique, promised}
+use Rattle.frames.specs.Text.{type_of, IsTextOf, ReadPromise}
+use Rattle.frames.proofs.Laws.Unique.{text_unique}
 use Rattle.frames.proofs.Laws.Exists.{read_exists}
 use Rattle.printing.specs.Lines.{LineOf, words_of}
 use Rattle.printing.specs.Laws.Spelling.{line_exists}
@@ -47,7 +46,7 @@ answered t n asker A W =
 
 -- what each kind of frame asks for
 
-pub first : {t t' : Known} {n : ℕ} {x : List ℕ} → Does t (frame.Stops n) t' x → t.stops ≡ none
+pub first : {t t' : Known} {n : ℕ} {x : List ℕ} → Does t (frame.Stops n) t' x → t.stops ≡ None
 first (stops e) = e
 
 pub room_for_row : {t t' : Known} {a b c d o : ℕ} {x : List ℕ} → Does t (frame.Row a b c d o) t' x → length t.rows < most_rows * row_width
@@ -56,56 +55,50 @@ room_for_row (row e h) = h
 pub room_for_pivot : {t t' : Known} {p s : ℕ} {x : List ℕ} → Does t (frame.Pivot p s) t' x → length t.pivots < most_pivots * pivot_width
 room_for_pivot (pivot e h) = h
 
--- only a frame does anything, and every other than the number of stops comes after it
-pub is_frame : {t t' : Known} {x : List ℕ} (f : Frame) → Does t f t' x → 1 ≤ type_of f
-is_frame (frame.Stops n) (stops e) = omega arith
-is_frame (frame.Row a b c d o) (row e r) = omega arith
-is_frame (frame.Pivot p s) (pivot e r) = omega arith
-is_frame (frame.Ask x a w) (asks e r) = omega arith
-is_frame {t = t} frame.Nothing x'' = elim x'' [ ]
-
-later : {t t' : Known} {x : List ℕ} (f : Frame) → 2 ≤ type_of f → Does t f t' x → (n : ℕ) × (t.stops ≡ some n)
+-- every frame but the number of stops comes after it
+later : {t t' : Known} {x : List ℕ} (f : Frame) → 2 ≤ type_of f → Does t f t' x → (n : ℕ) × (t.stops ≡ Some n)
 later (frame.Stops n) h (stops e) = absurd (omega arith)
 later (frame.Row a b c d o) h (row {n} e r) = (n, e)
 later (frame.Pivot p s) h (pivot {n} e r) = (n, e)
 later (frame.Ask x a w) h (asks {n} e r) = (n, e)
-later {t = t} frame.Nothing h _ = elim h [ ]
 
-pub only_first : {t t' : Known} {x : List ℕ} (f : Frame) → type_of f ≤ 1 → Does t f t' x → t.stops ≡ none
+pub only_first : {t t' : Known} {x : List ℕ} (f : Frame) → type_of f ≤ 1 → Does t f t' x → t.stops ≡ None
 only_first (frame.Stops n) h (stops e) = e
 only_first (frame.Row a b c d o) h (row e r) = absurd (omega arith)
 only_first (frame.Pivot p s) h (pivot e r) = absurd (omega arith)
 only_first (frame.Ask x a w) h (asks e r) = absurd (omega arith)
-only_first {t = t} frame.Nothing h x3 = elim x3 [ ]
 
 -- before the number of stops it can't be done
-pub too_early : {t : Known} (f : Frame) → 2 ≤ type_of f → t.stops ≡ none → (t' : Known) (x : List ℕ) → Does t f t' x → ⊥
+pub too_early : {t : Known} (f : Frame) → 2 ≤ type_of f → t.stops ≡ None → (t' : Known) (x : List ℕ) → Does t f t' x → ⊥
 too_early f h e t' x d = not_both e (later f h d).1
 
 done : (t : Known) (f : Frame) → Done t f
 done t f = go f t.stops refl (dec_lt (length t.rows) (most_rows * row_width)) (dec_lt (length t.pivots) (most_pivots * pivot_width))
   where
     go : (f : Frame) (o : Option ℕ) → t.stops ≡ o → Dec (length t.rows < most_rows * row_width) → Dec (length t.pivots < most_pivots * pivot_width) → Done t f
-    go (frame.Stops n) none e r p = inl (with_stops t n, [], stops e)
-    go (frame.Stops n) (some m) e r p = inr (λ t' x d. not_both (first d) e)
-    go (frame.Row a b c d o) none e r p = inr (too_early (frame.Row a b c d o) (omega arith) e)
-    go (frame.Row a b c d o) (some m) e (yes r) p = inl (with_row t (a ∷ b ∷ c ∷ d ∷ o ∷ []), [], row e r)
-    go (frame.Row a b c d o) (some m) e (no r) p = inr (λ t' x g. r (room_for_row g))
-    go (frame.Pivot q s) none e r p = inr (too_early (frame.Pivot q s) (omega arith) e)
-    go (frame.Pivot q s) (some m) e r (yes p) = inl (with_pivot t (q ∷ s ∷ []), [], pivot e p)
-    go (frame.Pivot q s) (some m) e r (no p) = inr (λ t' x g. p (room_for_pivot g))
-    go (frame.Ask x a w) none e r p = inr (too_early (frame.Ask x a w) (omega arith) e)
-    go (frame.Ask x a w) (some m) e r p = let l = answered t m x a w in inl (t, l.0, asks e l.1)
-    go frame.Nothing o e r p = inr (λ t' x d. omega (arith, is_frame frame.Nothing d))
+    go (frame.Stops n) None e r p = inl (with_stops t n, [], stops e)
+    go (frame.Stops n) (Some m) e r p = inr (λ t' x d. not_both (first d) e)
+    go (frame.Row a b c d o) None e r p = inr (too_early (frame.Row a b c d o) (omega arith) e)
+    go (frame.Row a b c d o) (Some m) e (yes r) p = inl (with_row t (a ∷ b ∷ c ∷ d ∷ o ∷ []), [], row e r)
+    go (frame.Row a b c d o) (Some m) e (no r) p = inr (λ t' x g. r (room_for_row g))
+    go (frame.Pivot q s) None e r p = inr (too_early (frame.Pivot q s) (omega arith) e)
+    go (frame.Pivot q s) (Some m) e r (yes p) = inl (with_pivot t (q ∷ s ∷ []), [], pivot e p)
+    go (frame.Pivot q s) (Some m) e r (no p) = inr (λ t' x g. p (room_for_pivot g))
+    go (frame.Ask x a w) None e r p = inr (too_early (frame.Ask x a w) (omega arith) e)
+    go (frame.Ask x a w) (Some m) e r p = let l = answered t m x a w in inl (t, l.0, asks e l.1)
 
 -- what a line does, or that it is no frame
 pub told : (t : Known) (line : List ℕ) → ((t' : Known) × (text : List ℕ) × Tells t line t' text) ⊎ NoFrame t line
-told t line = let r = read_exists line in go r.0 (promised line r.0 r.1) (done t r.0)
+unfolding ReadPromise
+told t line = let r = read_exists line in go r.0 r.1
   where
-    go : (f : Frame) → ((f ≡ frame.Nothing) × ((g : Frame) → IsTextOf g line → ⊥)) ⊎ IsTextOf f line → Done t f → ((t' : Known) × (text : List ℕ) × Tells t line t' text) ⊎ NoFrame t line
-    go f (inl h) d = inr (λ t' x s. h.1 s.frame s.is_text)
-    go f (inr h) (inl d) = inl (d.0, d.1, record { frame = f; is_text = h; does = d.2 })
-    go f (inr h) (inr d) = inr (λ t' x s. d t' x (subst (λ (g : Frame). Does t g t' x) (text_unique line s.frame f s.is_text h) s.does))
+    done_or_not : (f : Frame) → IsTextOf f line → Done t f → ((t' : Known) × (text : List ℕ) × Tells t line t' text) ⊎ NoFrame t line
+    done_or_not f h (inl d) = inl (d.0, d.1, record { frame = f; is_text = h; does = d.2 })
+    done_or_not f h (inr d) = inr (λ t' x s. d t' x (subst (λ (g : Frame). Does t g t' x) (text_unique line s.frame f s.is_text h) s.does))
+
+    go : (r : Option Frame) → ReadPromise line r → ((t' : Known) × (text : List ℕ) × Tells t line t' text) ⊎ NoFrame t line
+    go (Some f) h = done_or_not f h (done t f)
+    go None h = inr (λ t' x s. h s.frame s.is_text)
 
 -- what lines print, from number k on
 pub prints_exists : (k : ℕ) (t : Known) (lines : List (List ℕ)) → (text : List ℕ) × Prints k t lines text

@@ -70,7 +70,6 @@ text_short (frame.Stops n) = omega arith
 text_short (frame.Row from to start travel owner) = omega arith
 text_short (frame.Pivot stop reading) = omega arith
 text_short (frame.Ask asker a w) = omega arith
-text_short frame.Nothing = omega arith
 
 -- a line longer than any frame is none
 pub too_long : (t : Known) (line : List ℕ) → longest < length line → NoFrame t line

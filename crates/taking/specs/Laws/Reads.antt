@@ -1,38 +1,59 @@
 -- What the outcome of a read tells of what is to print, and of what comes after it.
-use Rattle.std.specs.Prelude.{ℕ, zero, suc, ◌≤◌, ◌≡◌, refl, List, ℤ, pos, negsuc, length, take}
-use Rattle.std.proofs.Common.{arith, sym, ap, ◌∙◌, subst, length-take}
-use Rattle.taking.specs.declared.state.Day.{Day}
-use Rattle.taking.specs.declared.state.Step.{Step}
-use Rattle.taking.specs.declared.state.Step.TheVariants as step
+use Rattle.std.specs.Prelude.{ℕ, ◌≤◌, ◌≡◌, refl, Option, Some, None, List, [], ◌∷◌, length}
+use Rattle.std.specs.Borrow.{Bor}
+use Rattle.std.specs.declared.ops.ControlFlow.{ControlFlow}
+use Rattle.std.specs.declared.ops.ControlFlow.TheVariants.{Continue, Break}
+use Rattle.std.proofs.Common.{arith}
+use Rattle.taking.specs.declared.state.Desk.{Desk}
 use Rattle.taking.specs.Pieces.{start}
-use Rattle.taking.specs.Days.{begun}
-use Rattle.taking.specs.Room.{most_bytes, out_room, stand_of, PieceWent, PieceHalts, PieceTaken, made_by, ReadTaken}
+use Rattle.taking.specs.Room.{most_bytes, out_room, Begun, stand_of, PieceWent, PieceTaken, EndTaken, BytesTaken, ReadTaken}
+use Rattle.taking.specs.Laws.Bytes.{anew_went, anew_halts, anew_end}
 
 -- at first the run stands at the start
-pub stands_at_start : (line list pivots : List ℕ) → stand_of begun line list pivots ≡ start
-stands_at_start line list pivots = refl
+pub stands_at_start : (d : Desk) → Begun d.day → stand_of d ≡ start
+stands_at_start d b = rw (b.stops, b.rows, b.pivots, b.line, b.len) refl
 
-stops_not : {end : ℕ} {day : Day} → step.Stop end ≡ step.Go day → ⊥
-stops_not e = subst stopped e tt
+-- the input ended
+pub read_ended : (read : Option (Bor (List ℕ))) (bytes : Bor (List ℕ)) (d d₀ d' : Desk) (end : ℕ) → EndTaken d₀ end d'.out → read ≡ Some bytes → length bytes.now ≡ 0 → stand_of d₀ ≡ stand_of d → d₀.out ≡ d.out
+    → ReadTaken read d (Break end) d'
+read_ended read bytes d d₀ d' end h is none stand same_out = rw is (go bytes.now none)
   where
-    stopped : Step → Type 0
-    stopped (step.Go d) = ⊥
-    stopped (step.Stop k) = Unit {0}
+    go : (bs : List ℕ) → length bs ≡ 0 → BytesTaken bs d (Break end) d'
+    go [] e = (end, refl, anew_end d d₀ stand same_out end d'.out h)
+    go (b ∷ bs) e = absurd (omega arith)
 
-module _ (buffer : List ℕ) (day : Day) (line list pivots out : List ℕ) (r : Step) (line' list' pivots' out' : List ℕ) where
+-- so many bytes came
+pub read_piece : (read : Option (Bor (List ℕ))) (bytes : Bor (List ℕ)) (d d₀ : Desk) (r : ControlFlow ℕ (Unit {0})) (d' : Desk) → PieceTaken bytes.now d₀.day.made d₀ r d' → read ≡ Some bytes → 1 ≤ length bytes.now
+    → d₀.day.made ≡ 0 → stand_of d₀ ≡ stand_of d → d₀.out ≡ d.out → d₀.day.rows ≡ d.day.rows → d₀.day.pivots ≡ d.day.pivots → d₀.list ≡ d.list → d₀.pivots ≡ d.pivots
+    → ReadTaken read d r d'
+read_piece read bytes d d₀ r d' h is more made stand same_out rows pivots list same_pivots = rw is (some bytes.now more (piece r h))
+  where
+    piece : (r : ControlFlow ℕ (Unit {0})) → PieceTaken bytes.now d₀.day.made d₀ r d' → PieceTaken bytes.now 0 d r d'
+    piece (Continue u) h = anew_went bytes.now d d₀ made stand same_out d' rows pivots list same_pivots h
+    piece (Break end) h = anew_halts bytes.now d d₀ made stand same_out end d'.out h
+
+    some : (bs : List ℕ) → 1 ≤ length bs → PieceTaken bs 0 d r d' → BytesTaken bs d r d'
+    some [] e h = absurd (omega arith)
+    some (b ∷ bs) e h = h
+
+module _ (d d' : Desk) where
   -- the run goes on only after a piece
-  pub read_went : (got : ℤ) (day' : Day) → ReadTaken got buffer day line list pivots out r line' list' pivots' out' → r ≡ step.Go day'
-      → (k : ℕ) × PieceWent (take k buffer) 0 day line list pivots out day' line' list' pivots' out'
-  read_went (negsuc k) day' h e = absurd (stops_not (sym h.0 ∙ e))
-  read_went (pos zero) day' h e = absurd (stops_not (sym h.1 ∙ e))
-  read_went (pos (suc k)) day' h e = (suc k, subst (λ (x : Step). PieceTaken (take (suc k) buffer) 0 day line list pivots out x line' list' pivots' out') e h)
+  pub read_went : (read : Option (Bor (List ℕ))) → ReadTaken read d (Continue tt) d' → (bytes : Bor (List ℕ)) × (read ≡ Some bytes) × PieceWent bytes.now 0 d d'
+  read_went None h = absurd (let e = h.0 in cc)
+  read_went (Some bytes) h = (bytes, refl, go bytes.now h)
+    where
+      go : (bs : List ℕ) → BytesTaken bs d (Continue tt) d' → PieceWent bs 0 d d'
+      go [] h = absurd (let e = h.1 in cc)
+      go (b ∷ bs) h = h
 
   -- what is to print has its room
-  pub went_fits : (k : ℕ) (day' : Day) → length buffer ≡ most_bytes → PieceWent (take k buffer) 0 day line list pivots out day' line' list' pivots' out' → day'.made ≤ out_room
-  went_fits k day' long h = omega (arith, length-take k buffer, h.few_bytes, h.puts.after)
+  pub went_fits : (bytes : List ℕ) → length bytes ≤ most_bytes → PieceWent bytes 0 d d' → d'.day.made ≤ out_room
+  went_fits bytes l h = omega (arith, h.few_bytes, h.puts.after)
 
-  pub stop_fits : (got : ℤ) (end : ℕ) → ReadTaken got buffer day line list pivots out r line' list' pivots' out' → r ≡ step.Stop end → end ≤ out_room
-  stop_fits (negsuc k) end h e = let same : 0 ≡ end = ap made_by (sym h.0 ∙ e) in omega arith
-  stop_fits (pos zero) end h e = let same : h.0 ≡ end = ap made_by (sym h.1 ∙ e) in omega (arith, h.2.fits)
-  stop_fits (pos (suc k)) end h e =
-      let halts : PieceHalts (take (suc k) buffer) 0 day line list pivots out end out' = subst (λ (x : Step). PieceTaken (take (suc k) buffer) 0 day line list pivots out x line' list' pivots' out') e h in halts.fits
+  pub stop_fits : (read : Option (Bor (List ℕ))) (end : ℕ) → ReadTaken read d (Break end) d' → end ≤ out_room
+  stop_fits None end h = let e = h.0 in let same : end ≡ 0 = cc in omega arith
+  stop_fits (Some bytes) end h = go bytes.now h
+    where
+      go : (bs : List ℕ) → BytesTaken bs d (Break end) d' → end ≤ out_room
+      go [] h = let e = h.1 in let same : end ≡ h.0 = cc in omega (arith, h.2.fits)
+      go (b ∷ bs) h = h.fits

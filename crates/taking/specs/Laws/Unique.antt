@@ -1,7 +1,6 @@
 -- A line does one thing, an input has one output, and a piece leads to one outcome.
-use Rattle.std.specs.Prelude.{ℕ, suc, ◌+◌, ◌≡◌, refl, List, [], ◌∷◌, length}
+use Rattle.std.specs.Prelude.{ℕ, Option, Some, None, suc, ◌+◌, ◌≡◌, refl, List, [], ◌∷◌, length}
 use Rattle.std.proofs.Common.{arith, sym, ◌∙◌, subst, ext_get_or}
-use Rattle.std.proofs.Math.Option.{Option, none, some}
 use Rattle.figures.specs.declared.answers.Answer.{Answer}
 use Rattle.figures.specs.Promises.{ask, PivotDiameterPromise}
 use Rattle.figures.specs.Laws.Unique.{pivot_diameter_unique}
@@ -17,15 +16,15 @@ use Rattle.taking.specs.Pieces.{Stand, Went, Halts, by_line, by_length}
 pub zeros_single : {k : ℕ} {xs ys : List ℕ} → Zeros k xs → Zeros k ys → xs ≡ ys
 zeros_single {xs = xs} {ys = ys} a b = ext_get_or 0 xs ys (a.long ∙ sym b.long) (λ i h. a.zeros i ∙ sym (b.zeros i))
 
-some_same : {n m : ℕ} {o : Option ℕ} → o ≡ some n → o ≡ some m → n ≡ m
+some_same : {n m : ℕ} {o : Option ℕ} → o ≡ Some n → o ≡ Some m → n ≡ m
 some_same e f = let g : ◌≡◌ {A = Option ℕ} _ _ = sym e ∙ f in cc
 
-pub not_both : {n : ℕ} {o : Option ℕ} {P : Type 0} → o ≡ none → o ≡ some n → P
+pub not_both : {n : ℕ} {o : Option ℕ} {P : Type 0} → o ≡ None → o ≡ Some n → P
 not_both e f = absurd (subst shown (sym f ∙ e) tt)
   where
     shown : Option ℕ → Type 0
-    shown none = ⊥
-    shown (some x) = Unit {0}
+    shown None = ⊥
+    shown (Some x) = Unit {0}
 
 answered_single : (t : Known) (n asker A W : ℕ) (x y : List ℕ) → Answered t n asker A W x → Answered t n asker A W y → x ≡ y
 answered_single t n asker A W x y a b =
@@ -41,7 +40,6 @@ does_single t (frame.Row from to start travel owner) _ _ _ _ (row e h) (row f g)
 does_single t (frame.Pivot stop reading) _ _ _ _ (pivot e h) (pivot f g) = (refl, refl)
 does_single t (frame.Ask asker A W) _ _ x y (asks {n} e a) (asks {n = m} f b) =
     (refl, answered_single t n asker A W x y a (subst (λ (k : ℕ). Answered t k asker A W y) (some_same f e) b))
-does_single t frame.Nothing _ _ x y x4 _ = elim x4 [ ]
 
 -- what a line does
 pub tells_single : {t : Known} {line : List ℕ} {t' t'' : Known} {x y : List ℕ} → Tells t line t' x → Tells t line t'' y → (t' ≡ t'') × (x ≡ y)

@@ -1,9 +1,7 @@
--- Invariant: the rooms are as they must be, and the lines that are to come have numbers. The reads are counted down.
-use Rattle.figures_program.proofs.Reading.{Between}
+-- A read ends at most 4,096 lines.
+use Rattle.std.proofs.Common.{◌+◌, ◌*◌, ◌≤◌}
+use Rattle.taking.specs.Room.{most_bytes}
 use Rattle.figures_program.proofs.input.read_all.Given as goal
 
-abbrev pub invariant-loop-turns : goal.invariant-loop-turns
-invariant-loop-turns l = Between l.buffer l.line l.list l.pivots l.scratch l.day l.turns
-
-abbrev pub decreases-loop-turns : goal.decreases-loop-turns
-decreases-loop-turns l = l.turns
+abbrev pub invariant-loop : goal.invariant-loop
+invariant-loop l = l.desk.day.line ≤ 1 + l.counter * most_bytes

@@ -32,7 +32,7 @@ pub returns-then-in_time : goal.returns-then-in_time
 returns-then-in_time c =
     let args = c.args in
     let loop = c.loop-j in
-    let leg = c.leg_no-leg in
+    let leg = c.leg_no in
     let in_time : args.t.0 ≤ leg.result.start.0 = grind (arith, common_steps) in
     sym (onward_here args.legs.now loop.j args.t.0 c.loop-j-test.true loop.invariant.0 (rw leg.ensures.is at in_time)) ∙ loop.invariant.1.1
 
@@ -58,7 +58,7 @@ loop-j-preserved c =
     let past = loop.invariant.1.0 on in
     let chained = c.requires.chained past.0 in
     let next = next_on chained past within in
-    let leg = c.leg_no-leg in
+    let leg = c.leg_no in
     let late : leg.result.start.0 < args.t.0 = grind (arith, common_steps) in
     let jump = farther_jump args.legs.now fit loop.j args.t.0 _ _ on within next (jump_on chained past within) c.farther-j.ensures in (
       jump.most,

@@ -14,9 +14,8 @@ step target x p = farther target p.0 p.1 x
 pub returns : goal.returns
 unfolding farthest_in
 returns c =
-    let args = c.args in
-    fold_from_yields_List _ (step args.target) c.default.result c.fold.result c.fold.ensures.ran
-    (YieldsList-from_zip (YieldsList-from_range 0 args.n args.n (search rules) (omega arith)) (YieldsList-from_slice args.distances.now (search rules)))
+    fold_from_yields_List _ (step c.args.target) c.default.result c.fold.result c.fold.ensures.ran
+    (YieldsList-from_zip (YieldsList-from_range 0 c.args.n c.args.n (search rules) (omega arith)) (YieldsList-from_slice c.args.distances.now (search rules)))
     (λ x p y q k. search rules)
-    ∙ (ap (λ x. fold (step args.target) x (zip (range_with_len 0 args.n) args.distances.now)) (search rules)
-    ∙ fold_places args.distances.now (step args.target) nobody args.n c.requires.0)
+    ∙ (ap (λ x. fold (step c.args.target) x (zip (range_with_len 0 c.args.n) c.args.distances.now)) (search rules)
+    ∙ fold_places c.args.distances.now (step c.args.target) nobody c.args.n c.requires.0)

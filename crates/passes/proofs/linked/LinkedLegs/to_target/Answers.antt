@@ -1,19 +1,13 @@
 -- The loop: u places are filled.
 use native.Mathlib.Omega.{arith}
 use mathlib.Core.Path.{◌≡◌, sym, ◌∙◌}
+use lib.ListN.{get_or}
 use Rattle.passes.specs.Legs.{legs_in}
 use Rattle.passes.specs.Backward.{distances_to}
-use Rattle.passes.proofs.Laws.Links.{head_within}
 use Rattle.passes.proofs.Laws.Backward.{distances_at, length_distances}
 use Rattle.passes.proofs.Laws.Swept.{swept_head}
 use Rattle.passes.proofs.Filling.{fill_one, fill_end}
 use Rattle.passes.proofs.linked.LinkedLegs.to_target.Goals as goal
-
-pub bounds-best-self : goal.bounds-best-self
-bounds-best-self c =
-    let self = c.args.self.now in
-    let links = self.links.now in
-    omega (arith, self.orderly.few, head_within self.legs.now links.head links.next links.follow 0 c.loop-u.u self.linked (omega arith))
 
 pub loop-u-preserved : goal.loop-u-preserved
 loop-u-preserved c =
@@ -24,7 +18,7 @@ loop-u-preserved c =
     let ls = legs_in self.legs.now in
     let new = distances_to args.target ls args.n 0 in
     let reached = swept_head self.legs.now self.orderly args.target c.sweep.new.best links.head links.next links.follow loop.u self.linked c.sweep.ensures.swept (omega arith) in
-    let is = c.distance_to.ensures ∙ (rw reached (sym (distances_at args.target ls args.n loop.u c.loop-u-test.true))) in
+    let is : c.distance_to.result ≡ get_or new loop.u 0 = c.distance_to.ensures ∙ (rw reached (sym (distances_at args.target ls args.n loop.u c.loop-u-test.true))) in
     fill_one new args.out.now loop.u c.distance_to.result loop.out (omega (arith, length_distances args.target ls args.n 0)) (omega arith) loop.invariant is
 
 pub returns : goal.returns
