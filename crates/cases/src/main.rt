@@ -5,7 +5,7 @@ mod asks;
 mod office;
 mod pivots;
 
-use std::io;
+use std::fmt;
 
 // Day D, five numbers a row.
 pub const DAY_D: [u32; 35] = [
@@ -13,7 +13,17 @@ pub const DAY_D: [u32; 35] = [
     150, 40, 0, 3, 4, 200, 5, 0,
 ];
 
-fn main(rt: HostRuntime) -> io::Result<()> {
-    office::cases(&rt)?;
-    asks::cases(&rt)
+// Standard output. Where nothing can be written, nobody can be told.
+pub struct Output;
+
+impl fmt::Write for Output {
+    fn write_str(&mut self, text: &str) -> fmt::Result {
+        io::write_all(1, text.as_bytes());
+        Ok(())
+    }
+}
+
+fn main() {
+    let mut output = Output;
+    let _ = office::cases(&mut output).and_then(|()| asks::cases(&mut output));
 }

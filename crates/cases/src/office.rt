@@ -1,12 +1,12 @@
 // The office check's cases.
-use crate::DAY_D;
+use crate::{DAY_D, Output};
 use figures::office_check;
-use std::io;
+use std::fmt::{self, Write};
 
-fn show(rt: &impl Print, name: &str, list: &[u32], n: u32) -> io::Result<()> {
+fn show(to: &mut Output, name: &str, list: &[u32], n: u32) -> fmt::Result {
     match office_check(list, n) {
-        Ok(rows) => println!(rt; "office, {name}: rows {rows}"),
-        Err(refusal) => println!(rt; "office, {name}: {refusal}"),
+        Ok(rows) => writeln!(to, "office, {name}: rows {rows}"),
+        Err(refusal) => writeln!(to, "office, {name}: {refusal}"),
     }
 }
 
@@ -18,44 +18,49 @@ fn make_rows(list: &mut [u32]) {
     }
 }
 
-fn horizon(rt: &impl Print) -> io::Result<()> {
-    show(rt, "start 259199 travel 1", &[0, 1, 259199, 1, 0], 5)?;
-    show(rt, "start 259199 travel 2", &[0, 1, 259199, 2, 0], 5)?;
+fn horizon(to: &mut Output) -> fmt::Result {
+    show(to, "start 259199 travel 1", &[0, 1, 259199, 1, 0], 5)?;
+    show(to, "start 259199 travel 2", &[0, 1, 259199, 2, 0], 5)?;
     let last = u32::MAX;
-    show(rt, "start 4294967295 travel 4294967295", &[0, 1, last, last, 0], 5)
+    show(
+        to,
+        "start 4294967295 travel 4294967295",
+        &[0, 1, last, last, 0],
+        5,
+    )
 }
 
-fn day_d(rt: &impl Print) -> io::Result<()> {
+fn day_d(to: &mut Output) -> fmt::Result {
     let mut list = DAY_D;
-    show(rt, "day D", &list, 5)?;
-    show(rt, "day D for 4 stops", &list, 4)?;
-    show(rt, "day D for 0 stops", &list, 0)?;
-    show(rt, "day D for 256 stops", &list, 256)?;
-    show(rt, "day D for 257 stops", &list, 257)?;
+    show(to, "day D", &list, 5)?;
+    show(to, "day D for 4 stops", &list, 4)?;
+    show(to, "day D for 0 stops", &list, 0)?;
+    show(to, "day D for 256 stops", &list, 256)?;
+    show(to, "day D for 257 stops", &list, 257)?;
     list[18] = 0;
-    show(rt, "day D with travel 0 in the row of owner 9", &list, 5)?;
+    show(to, "day D with travel 0 in the row of owner 9", &list, 5)?;
     list[4] = 256;
-    show(rt, "the same with owner 256 in the first row", &list, 5)?;
+    show(to, "the same with owner 256 in the first row", &list, 5)?;
     list[3] = 0;
-    show(rt, "the same with travel 0 in the first row too", &list, 5)
+    show(to, "the same with travel 0 in the first row too", &list, 5)
 }
 
-fn lengths(rt: &impl Print) -> io::Result<()> {
+fn lengths(to: &mut Output) -> fmt::Result {
     let mut full = [0u32; 10240];
     make_rows(&mut full);
-    show(rt, "2048 rows", &full, 2)?;
+    show(to, "2048 rows", &full, 2)?;
     let mut over = [0u32; 10245];
     make_rows(&mut over);
-    show(rt, "2049 rows", &over, 2)?;
-    show(rt, "2049 rows for 0 stops", &over, 0)?;
+    show(to, "2049 rows", &over, 2)?;
+    show(to, "2049 rows for 0 stops", &over, 0)?;
     let long = [0u32; 10246];
-    show(rt, "10246 numbers for 0 stops", &long, 0)?;
-    show(rt, "4 numbers for 0 stops", &[0, 0, 0, 0], 0)?;
-    show(rt, "no rows", &[], 1)
+    show(to, "10246 numbers for 0 stops", &long, 0)?;
+    show(to, "4 numbers for 0 stops", &[0, 0, 0, 0], 0)?;
+    show(to, "no rows", &[], 1)
 }
 
-pub fn cases(rt: &impl Print) -> io::Result<()> {
-    horizon(rt)?;
-    day_d(rt)?;
-    lengths(rt)
+pub fn cases(to: &mut Output) -> fmt::Result {
+    horizon(to)?;
+    day_d(to)?;
+    lengths(to)
 }
