@@ -14,6 +14,7 @@ pub const DAY_D: [u32; 35] = [
 ];
 
 // Standard output. Where nothing can be written, nobody can be told.
+#[derive(Clone, Copy)]
 pub struct Output;
 
 impl fmt::Write for Output {
