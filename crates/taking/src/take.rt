@@ -1,5 +1,5 @@
 // Frames, taken one after another: stops, rows and pivots are kept, an ask is answered.
-ghost use Rattle.std.specs.Prelude.{◌≡◌, ◌*◌, Some, length};
+ghost use Rattle.std.specs.Prelude.{◌≡◌, ◌*◌, length};
 ghost use Rattle.frames.specs.declared.frame.Frame.TheVariants.{Stops, Row, Pivot, Ask};
 ghost use Rattle.taking.specs.Room.{Spare, PutMore, FrameTaken};
 
