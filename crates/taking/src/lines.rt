@@ -84,8 +84,8 @@ impl Desk {
         }
     }
 
-    // What one read led to: the bytes that it read, none where the input ended. Where it failed the run ends,
-    // and a line that it cut is not taken. What it prints stands at the front of `out`.
+    // What one read led to: `read` is the bytes that it gave, none of them where the input ended, and nothing where
+    // it failed. Then the run ends, and a line that it cut is not taken. What a read prints stands at the front of `out`.
     #[tactic(auto, using(std::proofs::lemmas::Bool::Decides::nat_tests, crate::specs::Laws::Reads::read_piece))]
     pub fn take_read(&mut self, read: Option<&[u8]>) -> ControlFlow<usize>
         requires few { IfSome read (λ b. length b.now ≤ most_bytes) }

@@ -1,5 +1,5 @@
 // Frames, taken one after another: stops, rows and pivots are kept, an ask is answered.
-ghost use Rattle.std.specs.Prelude.{◌≡◌, ◌*◌, Some, length};
+ghost use Rattle.std.specs.Prelude.{◌≡◌, ◌*◌, length};
 ghost use Rattle.frames.specs.declared.frame.Frame.TheVariants.{Stops, Row, Pivot, Ask};
 ghost use Rattle.taking.specs.Room.{Spare, PutMore, FrameTaken};
 
@@ -8,7 +8,8 @@ use day::{MOST_ROWS, ROW_WIDTH};
 use frames::Frame;
 use printing::answer_line;
 
-// Puts one thing more after `count` of them, where there is room for `most`. The answer is how many there are then.
+// Puts one thing more after `count` of them, in a room for `most`. The answer is how many there are then, and none
+// where the room is full.
 fn put<const WIDTH: usize>(
     room: &mut [u32],
     count: usize,
@@ -74,7 +75,7 @@ impl Desk {
         Some(())
     }
 
-    // What one line holds; none where it can't be taken.
+    // What one line holds. None: it can't be taken, and nothing changes.
     pub(crate) fn take_frame(&mut self, frame: Frame) -> Option<()>
         requires spare { Spare 1 self.old.day }
         ensures { FrameTaken frame self.old result self.new }
