@@ -8,14 +8,18 @@ ghost use Rattle.day.specs.Rows.{row_of};
 
 use crate::row::{ROW_WIDTH, Row, row_at};
 
-// Writes a row as row k of a list.
+// Writes a row as row k of a list. By stores of its own: a `copy_from_slice` of the five numbers makes an ask 1.14 times as long as
+// plain Rust, where 1.1 times is the bar.
 fn put_row(rows: &mut [u32], k: usize, r: Row)
     requires { k * row_width + row_width ≤ length rows.old }
     ensures { rows.new ≡ sets rows.old (k * row_width) (numbers (row_of r)) }
 {
     let at = k * ROW_WIDTH;
-    let numbers = [r.from, r.to, r.start.0, r.travel.0, r.owner];
-    rows[at..at + ROW_WIDTH].copy_from_slice(&numbers);
+    rows[at] = r.from;
+    rows[at + 1] = r.to;
+    rows[at + 2] = r.start.0;
+    rows[at + 3] = r.travel.0;
+    rows[at + 4] = r.owner;
 }
 
 // Keeps a row after k others, if the asker sees it; answers how many there are then.

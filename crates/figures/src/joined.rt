@@ -12,13 +12,12 @@ ghost use Rattle.figures.specs.Promises.{asked, room, takes, Fulfils, PivotDiame
 use crate::answers::Answer;
 use crate::ask::{Ask, ROWS_ROOM};
 use crate::checks::{SCRATCH, check_room, wipe};
-use crate::lay::NO_NUMBERS;
 use crate::own::Own;
 use crate::pivots::MOST_PIVOTS;
 use crate::visits::{far_joined, visit_all};
 use day::{MOST_ROWS, Refusal};
 use passes::{Leg, Links};
-use search::{Search, pivot_bounds};
+use search::{PivotNumbers, Search, pivot_bounds};
 
 impl Own<'_> {
     // The search over all targets, among the pairs that some pivot joins.
@@ -29,7 +28,7 @@ impl Own<'_> {
         let stops = self.n as usize;
         let mut room = [Leg::BLANK; MOST_ROWS];
         let legs = self.legs(&mut room);
-        let mut numbers = [NO_NUMBERS; MOST_PIVOTS];
+        let mut numbers = [PivotNumbers::BLANK; MOST_PIVOTS];
         let numbers = self.pivot_numbers(legs, pivots, &mut numbers);
         let mut entered = [0u32; 256];
         pivot_bounds(numbers, stops, &mut entered);

@@ -15,12 +15,6 @@ use clock::Reading;
 use passes::{Leg, forward_pass, make_legs, reach_back};
 use search::PivotNumbers;
 
-// What a room for the numbers of pivots holds before they are laid out.
-pub const NO_NUMBERS: PivotNumbers = PivotNumbers {
-    onward: [0; 256],
-    into: [0; 256],
-};
-
 // One pivot's numbers.
 fn lay_pivot(legs: &[Leg], n: usize, a: Reading, pivot: Pivot, numbers: &mut PivotNumbers)
     requires n_bounded { (n ≤ most_stops) × Laid n legs.now }
