@@ -14,8 +14,11 @@ fn put_row(rows: &mut [u32], k: usize, r: Row)
     ensures { rows.new ≡ sets rows.old (k * row_width) (numbers (row_of r)) }
 {
     let at = k * ROW_WIDTH;
-    let numbers = [r.from, r.to, r.start.0, r.travel.0, r.owner];
-    rows[at..at + ROW_WIDTH].copy_from_slice(&numbers);
+    rows[at] = r.from;
+    rows[at + 1] = r.to;
+    rows[at + 2] = r.start.0;
+    rows[at + 3] = r.travel.0;
+    rows[at + 4] = r.owner;
 }
 
 // Keeps a row after k others, if the asker sees it; answers how many there are then.
