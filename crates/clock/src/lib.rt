@@ -24,11 +24,11 @@ impl Reading {
         (reading <= Reading::HORIZON).then_some(reading)
     }
 
-    // A length on from this reading, or none past the horizon; the sum is exact.
+    // A length on from this reading, or none past the horizon: past it is every sum that does not fit.
     pub fn plus(self, length: Length) -> Option<Reading>
         ensures { result ≡ made_of (self.0 + length.0) }
     {
-        Reading::of(self.0.checked_add(length.0)?)
+        Reading::of(self.0.saturating_add(length.0))
     }
 
     // This reading less an earlier one, or none where the other is the later.

@@ -98,9 +98,6 @@ module _ (o : Own) (t : Takes) where
   abbrev then_pivots : List Check
   then_pivots = pivots ++ then_rooms
 
-  pub at_stop : (number place : ℕ) → Refuses stops number place → Refuses (own_table o t) number place
-  at_stop number place h = refuses_first stops then_pivots number place h
-
   module _ (c : Clear stops) where
     pub at_pivots : (number place : ℕ) → Refuses pivots number place → Refuses (own_table o t) number place
     at_pivots number place h = refuses_then stops then_pivots number place c (refuses_first pivots then_rooms number place h)

@@ -41,9 +41,6 @@ module _ (n : ℕ) (pivots : List ℕ) (onward into : Pivot → List ℕ) where
   abbrev own : ℕ → PivotNumbers → PivotNumbers
   own i x = numbers_over n (onward (pivot_at pivots i)) (into (pivot_at pivots i)) x
 
-  pub laying_none : (old : List PivotNumbers) → Laying n pivots onward into 0 old old
-  laying_none old = record { same_length = refl; laid = λ j x l a. absurd (omega arith); kept = λ j x l a. a }
-
   pub laying_more : (i : ℕ) (old now new : List PivotNumbers) (x : PivotNumbers) → At now i x → new ≡ set now i (own i x)
       → Laying n pivots onward into i old now → Laying n pivots onward into (i + 1) old new
   laying_more i old now new x here e before =

@@ -5,13 +5,12 @@ ghost use Rattle.figures.specs.Parts.{Prepares};
 ghost use Rattle.figures.specs.Own.{Owns};
 ghost use Rattle.figures.specs.Promises.{asked};
 
-use crate::checks::plain_check;
 use crate::own::Own;
 use clock::Reading;
-use day::{ROW_WIDTH, Refusal, first_fault, own_rows};
+use day::{MOST_ROWS, ROW_WIDTH, Refusal, first_fault, own_rows};
 
 // How many numbers the rows of a list take at most.
-pub const ROWS_ROOM: usize = 10240;
+pub const ROWS_ROOM: usize = MOST_ROWS * ROW_WIDTH;
 
 // What every asking call is given: the day list, the number of stops, who asks, and the interval from a to w.
 #[derive(Clone, Copy)]
@@ -29,13 +28,13 @@ impl Ask<'_> {
         requires { most_rows * row_width ≤ length rows.old }
         ensures { Prepares (asked self.entry) rows.old result rows.new }
     {
-        plain_check(self)?;
+        self.plain_check()?;
         let k = own_rows(self.list, self.asker, rows);
         first_fault(&rows[..k * ROW_WIDTH], self.n)?;
         Ok(k)
     }
 
-    // The same, with the rows as a call goes on from them.
+    // The asker's own rows, copied into `rows`, where numbers 1 to 6 pass.
     pub(crate) fn own<'r>(self, rows: &'r mut [u32]) -> Result<Own<'r>, Refusal>
         requires { most_rows * row_width ≤ length rows.old }
         ensures { Owns (asked self.entry) result }

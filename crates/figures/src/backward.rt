@@ -14,9 +14,10 @@ use clock::Length;
 use day::{MOST_ROWS, Refusal};
 use passes::{Leg, Links};
 
+// Over own rows: the checks that are left, then the answer.
 impl Own<'_> {
     fn distances_to(self, target: u32, out: &mut [u32], scratch: &mut [u32]) -> Result<(), Refusal>
-        ensures { FulfilsFilling (own_table (owned self.entry) (takes (target ∷ []) [] (room out.old self.entry.n ∷ room scratch.old scratch_places ∷ []))) (Fills self.entry.n (λ u. OwnDistance (owned self.entry) u target) out.old out.new × Wiped scratch.old scratch.new) ((out.new ≡ out.old) × (scratch.new ≡ scratch.old)) result }
+        ensures { let own = owned self.entry in FulfilsFilling (own_table own (takes (target ∷ []) [] (room out.old own.n ∷ room scratch.old scratch_places ∷ []))) (Fills own.n (λ u. OwnDistance own u target) out.old out.new × Wiped scratch.old scratch.new) ((out.new ≡ out.old) × (scratch.new ≡ scratch.old)) result }
     {
         let stops = self.n as usize;
         self.check_stop(target)?;
@@ -35,7 +36,7 @@ impl Own<'_> {
         stop: u32,
         scratch: &mut [u32],
     ) -> Result<Option<Length>, Refusal>
-        ensures { FulfilsEccentricity (own_table (owned self.entry) (takes (stop ∷ []) [] (room scratch.old scratch_places ∷ []))) (Backward (OwnPairs (owned self.entry)) stop) (Wiped scratch.old scratch.new) (scratch.new ≡ scratch.old) result }
+        ensures { let own = owned self.entry in FulfilsEccentricity (own_table own (takes (stop ∷ []) [] (room scratch.old scratch_places ∷ []))) (Backward (OwnPairs own) stop) (Wiped scratch.old scratch.new) (scratch.new ≡ scratch.old) result }
     {
         self.check_stop(stop)?;
         check_room(scratch, SCRATCH)?;

@@ -35,18 +35,20 @@ pub(crate) fn list_check(list: &[u32], n: u32) -> Result<(), Refusal>
     Ok(())
 }
 
-// Numbers 1 to 5.
-pub(crate) fn plain_check(ask: Ask) -> Result<(), Refusal>
-    ensures { Judges (plain_checks (asked ask.entry)) result }
-{
-    list_check(ask.list, ask.n)?;
-    if ask.asker > LAST_CLIENT {
-        return Err(Refusal::Asker);
+impl Ask<'_> {
+    // Numbers 1 to 5.
+    pub(crate) fn plain_check(self) -> Result<(), Refusal>
+        ensures { Judges (plain_checks (asked self.entry)) result }
+    {
+        list_check(self.list, self.n)?;
+        if self.asker > LAST_CLIENT {
+            return Err(Refusal::Asker);
+        }
+        if self.a > self.w || Reading::of(self.w).is_none() {
+            return Err(Refusal::Interval);
+        }
+        Ok(())
     }
-    if ask.a > ask.w || Reading::of(ask.w).is_none() {
-        return Err(Refusal::Interval);
-    }
-    Ok(())
 }
 
 impl Own<'_> {

@@ -14,6 +14,7 @@ use day::{MOST_ROWS, Refusal};
 use passes::{Leg, fill_table, forward_pass};
 use search::farthest;
 
+// Over own rows: the checks that are left, then the answer.
 impl Own<'_> {
     // The distances from a source, in the first n places of `out`.
     fn go_from(self, source: u32, out: &mut [u32])
@@ -26,7 +27,7 @@ impl Own<'_> {
     }
 
     fn distances_from(self, source: u32, out: &mut [u32]) -> Result<(), Refusal>
-        ensures { FulfilsFilling (own_table (owned self.entry) (takes (source ∷ []) [] (room out.old self.entry.n ∷ []))) (Fills self.entry.n (OwnDistance (owned self.entry) source) out.old out.new) (out.new ≡ out.old) result }
+        ensures { let own = owned self.entry in FulfilsFilling (own_table own (takes (source ∷ []) [] (room out.old own.n ∷ []))) (Fills own.n (OwnDistance own source) out.old out.new) (out.new ≡ out.old) result }
     {
         self.check_stop(source)?;
         check_room(out, self.n as usize)?;
@@ -35,7 +36,7 @@ impl Own<'_> {
     }
 
     fn table(self, out: &mut [u32]) -> Result<(), Refusal>
-        ensures { FulfilsFilling (own_table (owned self.entry) (takes [] [] (room out.old (self.entry.n * self.entry.n) ∷ []))) (Fills (self.entry.n * self.entry.n) (OwnTable (owned self.entry)) out.old out.new) (out.new ≡ out.old) result }
+        ensures { let own = owned self.entry in FulfilsFilling (own_table own (takes [] [] (room out.old (own.n * own.n) ∷ []))) (Fills (own.n * own.n) (OwnTable own) out.old out.new) (out.new ≡ out.old) result }
     {
         let stops = self.n as usize;
         check_room(out, stops * stops)?;
@@ -46,7 +47,7 @@ impl Own<'_> {
     }
 
     fn forward_eccentricity(self, stop: u32) -> Result<Option<Length>, Refusal>
-        ensures { FulfilsEccentricity (own_table (owned self.entry) (takes (stop ∷ []) [] [])) (Forward (OwnPairs (owned self.entry)) stop) (Unit {0}) (Unit {0}) result }
+        ensures { let own = owned self.entry in FulfilsEccentricity (own_table own (takes (stop ∷ []) [] [])) (Forward (OwnPairs own) stop) (Unit {0}) (Unit {0}) result }
     {
         self.check_stop(stop)?;
         let mut out = [0u32; 256];

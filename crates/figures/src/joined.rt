@@ -19,11 +19,12 @@ use day::{MOST_ROWS, Refusal};
 use passes::{Leg, Links};
 use search::{PivotNumbers, Search, pivot_bounds};
 
+// Over own rows: the checks that are left, then the answer.
 impl Own<'_> {
     // The search over all targets, among the pairs that some pivot joins.
     fn search_joined(self, pivots: &[u32]) -> Search
         requires { (length pivots.now / pivot_width ≤ most_pivots) × AllSit self.n self.a.0 self.w.0 pivots.now }
-        ensures { Right (OwnJoined (owned self.entry) pivots.now) (OwnUnder (owned self.entry) pivots.now) result }
+        ensures { let own = owned self.entry in Right (OwnJoined own pivots.now) (OwnUnder own pivots.now) result }
     {
         let stops = self.n as usize;
         let mut room = [Leg::BLANK; MOST_ROWS];
@@ -38,7 +39,7 @@ impl Own<'_> {
     }
 
     fn pivot_diameter(self, pivots: &[u32], scratch: &mut [u32]) -> Result<Search, Refusal>
-        ensures { Fulfils (own_table (owned self.entry) (takes [] pivots.now (room scratch.old scratch_places ∷ []))) (λ st. Right (OwnJoined (owned self.entry) pivots.now) (OwnUnder (owned self.entry) pivots.now) st × Wiped scratch.old scratch.new) (scratch.new ≡ scratch.old) result }
+        ensures { let own = owned self.entry in Fulfils (own_table own (takes [] pivots.now (room scratch.old scratch_places ∷ []))) (λ st. Right (OwnJoined own pivots.now) (OwnUnder own pivots.now) st × Wiped scratch.old scratch.new) (scratch.new ≡ scratch.old) result }
     {
         self.check_pivots(pivots)?;
         check_room(scratch, SCRATCH)?;
@@ -50,7 +51,7 @@ impl Own<'_> {
 
 impl Ask<'_> {
     fn pivot_diameter_end(self, pivots: &[u32], scratch: &mut [u32]) -> Result<Search, Refusal>
-        ensures { Fulfils (table (asked self.entry) (takes [] pivots.now (room scratch.old scratch_places ∷ []))) (λ st. Right (JoinedPairs (asked self.entry) pivots.now) (PivotBounds (asked self.entry) pivots.now) st × Wiped scratch.old scratch.new) (scratch.new ≡ scratch.old) result }
+        ensures { let ask = asked self.entry in Fulfils (table ask (takes [] pivots.now (room scratch.old scratch_places ∷ []))) (λ st. Right (JoinedPairs ask pivots.now) (PivotBounds ask pivots.now) st × Wiped scratch.old scratch.new) (scratch.new ≡ scratch.old) result }
     {
         let mut rows = [0u32; ROWS_ROOM];
         self.own(&mut rows)?.pivot_diameter(pivots, scratch)

@@ -16,10 +16,11 @@ use day::{MOST_ROWS, Refusal};
 use passes::{Leg, Links};
 use search::{Search, bounds};
 
+// Over own rows: the checks that are left, then the answer.
 impl Own<'_> {
     // The search over all targets.
     fn search_all(self) -> Search
-        ensures { Right (OwnPairs (owned self.entry)) (OwnBounds (owned self.entry)) result }
+        ensures { let own = owned self.entry in Right (OwnPairs own) (OwnBounds own) result }
     {
         let stops = self.n as usize;
         let mut room = [Leg::BLANK; MOST_ROWS];
@@ -32,7 +33,7 @@ impl Own<'_> {
     }
 
     fn diameter(self, scratch: &mut [u32]) -> Result<Search, Refusal>
-        ensures { Fulfils (own_table (owned self.entry) (takes [] [] (room scratch.old scratch_places ∷ []))) (λ st. Right (OwnPairs (owned self.entry)) (OwnBounds (owned self.entry)) st × Wiped scratch.old scratch.new) (scratch.new ≡ scratch.old) result }
+        ensures { let own = owned self.entry in Fulfils (own_table own (takes [] [] (room scratch.old scratch_places ∷ []))) (λ st. Right (OwnPairs own) (OwnBounds own) st × Wiped scratch.old scratch.new) (scratch.new ≡ scratch.old) result }
     {
         check_room(scratch, SCRATCH)?;
         let st = self.search_all();
@@ -43,7 +44,7 @@ impl Own<'_> {
 
 impl Ask<'_> {
     fn diameter_end(self, scratch: &mut [u32]) -> Result<Search, Refusal>
-        ensures { Fulfils (table (asked self.entry) (takes [] [] (room scratch.old scratch_places ∷ []))) (λ st. Right (Pairs (asked self.entry)) (Bounds (asked self.entry)) st × Wiped scratch.old scratch.new) (scratch.new ≡ scratch.old) result }
+        ensures { let ask = asked self.entry in Fulfils (table ask (takes [] [] (room scratch.old scratch_places ∷ []))) (λ st. Right (Pairs ask) (Bounds ask) st × Wiped scratch.old scratch.new) (scratch.new ≡ scratch.old) result }
     {
         let mut rows = [0u32; ROWS_ROOM];
         self.own(&mut rows)?.diameter(scratch)

@@ -1,17 +1,10 @@
 -- The loop: the search with the turns left, from here, ends as the search from the start.
 use Prim.Native.Nat.{ℕ, ◌+◌}
-use native.Mathlib.Omega.{arith}
 use mathlib.Core.Path.{sym, ap, ◌∙◌}
 use Rattle.search.specs.declared.state.Search.{Search}
 use Rattle.search.proofs.Laws.Visiting.{visit_counts}
-use Rattle.search.proofs.Laws.Searched.{going_begun, going_visit, turns_over, targets_over, stops_there, next_below}
+use Rattle.search.proofs.Laws.Searched.{going_visit, turns_over, targets_over, stops_there, next_below}
 use Rattle.figures.proofs.visits.visit_all.Goals as goal
-
-pub loop-init : goal.loop-init
-loop-init g c = (
-  ap (λ (s : Search). s.visits) c.begun-st.ensures,
-  λ f by. rw (c.begun-st.ensures, c.before_all-last.ensures) (going_begun f c.args.bounds.now c.args.n),
-)
 
 pub returns-in_default : goal.returns-in_default
 returns-in_default g c f by = sym (targets_over (c.loop.invariant.1 f by) c.loop-test.true (sym c.next_target.ensures ∙ c.in_default.is))
@@ -22,9 +15,6 @@ returns-then-stops_at g c f by =
 
 pub far-requires : goal.far-requires
 far-requires g c = c.requires.callable c.in-Some.place.stop (next_below c.args.bounds.now c.loop.last c.args.n c.in-Some.place (sym c.next_target.ensures ∙ c.in-Some.is))
-
-pub visit-st-requires : goal.visit-st-requires
-visit-st-requires g c = omega (arith, c.loop.invariant.0, c.requires.n_bounded.1, c.loop-test.true)
 
 pub loop-preserved : goal.loop-preserved
 loop-preserved g c =

@@ -27,8 +27,8 @@ returns-in_err-check_room-2 c =
     refused (own_table o t) _ _ _ _ c.from_residual-in_err-check_room-2.ensures.1
     (at_rooms o t c.in_ok-check_stop.ensures (no_pivots o.n o.A o.W) _ _ (room_then out (scratch ∷ []) c.in_ok-check_room.ensures _ _ c.in_err-check_room-2.ensures)) (refl, refl)
 
-pub to_target-requires : goal.to_target-requires
-to_target-requires c = record { n_le_most_stops = c.args.self.ready.few_stops; n_in_bounds = room_wide c.in_ok-check_room.ensures }
+pub to_target-requires-clause-n_in_bounds : goal.to_target-requires-clause-n_in_bounds
+to_target-requires-clause-n_in_bounds c = room_wide c.in_ok-check_room.ensures
 
 pub wipe-requires : goal.wipe-requires
 wipe-requires c = room_wide c.in_ok-check_room-2.ensures

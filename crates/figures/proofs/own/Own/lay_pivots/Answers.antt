@@ -8,17 +8,14 @@ use Rattle.passes.specs.Legs.{legs_in}
 use Rattle.passes.specs.Pivots.{onward_pivot, into_pivot}
 use Rattle.search.specs.Pivots.{numbers_over}
 use Rattle.figures.proofs.Pivoting.{pivot_sits}
-use Rattle.figures.proofs.Placing.{at_get, laying_none, laying_more, laying_end}
+use Rattle.figures.proofs.Placing.{at_get, laying_more, laying_end}
 use Rattle.figures.proofs.own.Own.lay_pivots.Goals as goal
 
-pub loop-i-init : goal.loop-i-init
-loop-i-init c = laying_none _ _ _ _ _
-
-pub lay_pivot-requires : goal.lay_pivot-requires
-lay_pivot-requires c =
+pub lay_pivot-requires-clause-sits : goal.lay_pivot-requires-clause-sits
+lay_pivot-requires-clause-sits c =
     let o = c.args.self in
     let sits = rw (sym c.pivot_at.ensures) at (pivot_sits o.n o.a.0 o.w.0 c.args.pivots.now c.loop-i.i c.requires.sit c.loop-i-test.true) in
-    record { n_bounded = (o.ready.few_stops, c.requires.laid); sits = (sits.below, (sits.not_before, omega (arith, sits.not_after, o.ready.in_day))) }
+    (sits.below, (sits.not_before, omega (arith, sits.not_after, o.ready.in_day)))
 
 pub loop-i-preserved : goal.loop-i-preserved
 loop-i-preserved c =
