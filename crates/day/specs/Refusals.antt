@@ -1,5 +1,6 @@
 -- The number and the place of each refusal, as the table has them.
-use Rattle.std.specs.Prelude.{ℕ}
+use Rattle.std.specs.Prelude.{ℕ, List, ◌++◌, codes}
+use Rattle.std.specs.Fmt.{decimal}
 use Rattle.day.specs.declared.refusal.Refusal.{Refusal}
 use Rattle.day.specs.declared.refusal.Refusal.TheVariants as refusal
 
@@ -31,3 +32,7 @@ place_of (refusal.Pivot place) = place
 place_of refusal.Room = 0
 place_of (refusal.Owner place) = place
 place_of refusal.Unrouted = 0
+
+-- as the figures program writes it
+abbrev pub refusal_text : Refusal → List ℕ
+refusal_text r = codes "refused " ++ (decimal (number_of r) ++ (codes " " ++ decimal (place_of r)))

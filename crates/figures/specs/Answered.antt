@@ -1,5 +1,6 @@
 -- The answers that a farthest stop, the end of a search and a refusal give; 0 is none.
-use Rattle.std.specs.Prelude.{ℕ, cond, List, eqb, Option, Some, None}
+use Rattle.std.specs.Prelude.{ℕ, cond, List, ◌++◌, eqb, Option, Some, None, codes}
+use Rattle.std.specs.Fmt.{decimal}
 use Rattle.clock.specs.declared.Length.{Length}
 use Rattle.rules.specs.Day.{Row}
 use Rattle.passes.specs.Backward.{distances_to}
@@ -29,3 +30,9 @@ answer_of st = cond (eqb st.best 0) (answer.Nothing st.visits) (answer.Value (re
 
 abbrev pub refused_by : Refusal → Answer
 refused_by r = answer.Refused (number_of r) (place_of r)
+
+-- as the figures program writes it
+abbrev pub answer_text : Answer → List ℕ
+answer_text (answer.Value value from to visits) = decimal value.0 ++ (codes " " ++ (decimal from ++ (codes " " ++ (decimal to ++ (codes " " ++ decimal visits)))))
+answer_text (answer.Nothing visits) = codes "none " ++ decimal visits
+answer_text (answer.Refused number place) = codes "refused " ++ (decimal number ++ (codes " " ++ decimal place))

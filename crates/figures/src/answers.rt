@@ -55,6 +55,11 @@ impl From<Refusal> for Answer {
 
 // As the figures program writes it.
 impl fmt::Display for Answer {
+    ghost use Rattle.std.specs.Prelude.{Some};
+    ghost use Rattle.figures.specs.Answered.{answer_text};
+
+    ghost output = { λ r. Some (answer_text r) };
+
     fn fmt<W: fmt::Write>(&self, f: &mut fmt::Formatter<W>) -> fmt::Result {
         match *self {
             Answer::Value {
