@@ -9,7 +9,7 @@ use borrow.Author.Tests.{eqb-true, eqb-false}
 use Rattle.std.specs.Prelude.{Some, None, Result, Ok, Err}
 use Rattle.rules.specs.Words.{Greatest, GreatestIfAny}
 use Rattle.rules.specs.Day.{Ask}
-use Rattle.rules.specs.Table.{Check, Takes, table, Clear, Refuses}
+use Rattle.rules.specs.Table.{Check, Takes, table, Refuses}
 use Rattle.rules.proofs.Laws.Checks.{refuses_first, refuses_then, clear_both}
 use Rattle.day.specs.Refusals.{number_of, place_of}
 use Rattle.day.specs.declared.refusal.Refusal.{Refusal}
@@ -18,7 +18,7 @@ use Rattle.search.specs.declared.state.Search.{Search}
 use Rattle.search.specs.Found.{Right}
 use Rattle.figures.specs.declared.own.Own as declared
 use Rattle.figures.specs.declared.answers.Answer.TheVariants as answer
-use Rattle.figures.specs.Answered.{eccentricity_of, answer_of}
+use Rattle.figures.specs.Answered.{eccentricity_of, ended}
 use Rattle.figures.specs.Parts.{first_checks}
 use Rattle.figures.specs.Own.{Own, owned, own_of, Owns, own_table}
 use Rattle.figures.specs.Promises.{seconds, Fulfils, FulfilsSearch}
@@ -31,10 +31,11 @@ far_right P x nobody greatest = go (eqb x.value 0) refl
     go true e = nobody (eqb-true _ _ e)
     go false e = greatest (eqb-false _ _ e)
 
--- the end of a search as an answer
-pub end_fulfils : (cs : List Check) (Pair : ℕ → ℕ → ℕ → Type 0) (Bound : ℕ → ℕ → Type 0) (X Y : Type 0) (st : Search)
-    → Clear cs × (Right Pair Bound st × X) → FulfilsSearch cs Pair Bound X Y (answer_of st)
-end_fulfils cs Pair Bound X Y st h = go (eqb st.best 0) refl
+-- the end of a search, or a refusal, as an answer
+pub end_fulfils : (cs : List Check) (Pair : ℕ → ℕ → ℕ → Type 0) (Bound : ℕ → ℕ → Type 0) (X Y : Type 0) (r : Result Search Refusal)
+    → Fulfils cs (λ st. Right Pair Bound st × X) Y r → FulfilsSearch cs Pair Bound X Y (ended r)
+end_fulfils cs Pair Bound X Y (Err r) h = h
+end_fulfils cs Pair Bound X Y (Ok st) h = go (eqb st.best 0) refl
   where
     go : (b : Bool) → eqb st.best 0 ≡ b
         → FulfilsSearch cs Pair Bound X Y (cond b (answer.Nothing st.visits) (answer.Value (record { 0 = st.best }) st.source st.target st.visits))

@@ -1,5 +1,5 @@
 -- The answers that a farthest stop, the end of a search and a refusal give; 0 is none.
-use Rattle.std.specs.Prelude.{ℕ, cond, List, ◌++◌, eqb, Option, Some, None, codes}
+use Rattle.std.specs.Prelude.{ℕ, cond, List, ◌++◌, eqb, Option, Some, None, Result, Ok, Err, codes}
 use Rattle.std.specs.Fmt.{decimal}
 use Rattle.clock.specs.declared.Length.{Length}
 use Rattle.rules.specs.Day.{Row}
@@ -30,6 +30,10 @@ answer_of st = cond (eqb st.best 0) (answer.Nothing st.visits) (answer.Value (re
 
 abbrev pub refused_by : Refusal → Answer
 refused_by r = answer.Refused (number_of r) (place_of r)
+
+abbrev pub ended : Result Search Refusal → Answer
+ended (Ok st) = answer_of st
+ended (Err r) = refused_by r
 
 -- as the figures program writes it
 abbrev pub answer_text : Answer → List ℕ

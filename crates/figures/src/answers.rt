@@ -1,6 +1,6 @@
 // The answers of the calls.
 ghost use Rattle.std.specs.Prelude.{◌≡◌};
-ghost use Rattle.figures.specs.Answered.{eccentricity_of, answer_of, refused_by};
+ghost use Rattle.figures.specs.Answered.{eccentricity_of, answer_of, refused_by, ended};
 
 use clock::Length;
 use day::Refusal;
@@ -49,6 +49,17 @@ impl From<Refusal> for Answer {
         Answer::Refused {
             number: refusal.number(),
             place: refusal.place(),
+        }
+    }
+}
+
+impl From<Result<Search, Refusal>> for Answer {
+    ghost from_gives = { λ end r. r ≡ ended end };
+
+    fn from(end: Result<Search, Refusal>) -> Answer {
+        match end {
+            Ok(st) => Answer::from(st),
+            Err(refusal) => Answer::from(refusal),
         }
     }
 }

@@ -61,9 +61,6 @@ impl Ask<'_> {
     pub fn pivot_diameter(self, pivots: &[u32], scratch: &mut [u32]) -> Answer
         ensures { PivotDiameterPromise (asked self.entry) pivots.now scratch.old result scratch.new }
     {
-        match self.pivot_diameter_end(pivots, scratch) {
-            Ok(st) => Answer::from(st),
-            Err(refusal) => Answer::from(refusal),
-        }
+        Answer::from(self.pivot_diameter_end(pivots, scratch))
     }
 }

@@ -54,9 +54,6 @@ impl Ask<'_> {
     pub fn diameter(self, scratch: &mut [u32]) -> Answer
         ensures { DiameterPromise (asked self.entry) scratch.old result scratch.new }
     {
-        match self.diameter_end(scratch) {
-            Ok(st) => Answer::from(st),
-            Err(refusal) => Answer::from(refusal),
-        }
+        Answer::from(self.diameter_end(scratch))
     }
 }

@@ -1,6 +1,6 @@
 -- The promises of functions that serve other modules of the crate leave one outcome too.
-use Rattle.std.specs.Prelude.{ℕ, ◌≡◌, List, [], ◌∷◌, Result, Ok, Err}
-use Rattle.std.proofs.Common.{ap, sym, ◌∙◌, inl, inr}
+use Rattle.std.specs.Prelude.{ℕ, ◌≡◌, List, [], ◌∷◌, take, Result, Ok, Err}
+use Rattle.std.proofs.Common.{ap, sym, ◌∙◌, subst, inl, inr}
 use Rattle.rules.specs.Day.{Row, Ask}
 use Rattle.rules.specs.Pivots.{pivots_of}
 use Rattle.rules.specs.Table.{check_8, check_9, Refuses}
@@ -12,7 +12,12 @@ use Rattle.day.specs.declared.refusal.Refusal.{Refusal}
 use Rattle.day.specs.Laws.Single.{refusal_same}
 use Rattle.day.specs.Verdicts.{Judges}
 use Rattle.day.specs.Laws.Single.{judges_single}
+use Rattle.rules.specs.Lent.{Copied}
 use Rattle.passes.specs.declared.legs.Leg.{Leg}
+use Rattle.passes.specs.declared.links.Links.{Links}
+use Rattle.passes.specs.Legs.{alone, legs_of}
+use Rattle.passes.specs.Links.{AllLinked}
+use Rattle.passes.proofs.Laws.Single.{links_single}
 use Rattle.figures.specs.Promises.{Filled}
 use Rattle.figures.specs.Parts.{list_checks, plain_checks, own_check, first_checks, Prepares, LegsLaid}
 
@@ -50,3 +55,13 @@ module _ (q : Ask) (old : List ℕ) where
 
 pub legs_laid_unique : (n A W : ℕ) (rs : List Row) (l l' : List Leg) → LegsLaid n A W rs l → LegsLaid n A W rs l' → l ≡ l'
 legs_laid_unique n A W rs l l' a b = a.is ∙ sym b.is
+
+-- and so are a room for legs with its links: their number, the whole room, and all links
+pub legs_linked_unique : (A W : ℕ) (rs : List Row) (room : List Leg) (old : Links) (count count' : ℕ) (l l' : List Leg) (new new' : Links)
+    → Copied 1 alone (legs_of A W rs) room count l → AllLinked (take count l) old new
+    → Copied 1 alone (legs_of A W rs) room count' l' → AllLinked (take count' l') old new'
+    → (count ≡ count') × ((l ≡ l') × (new ≡ new'))
+legs_linked_unique A W rs room old count count' l l' new new' c a d b =
+    let e = copied_single c d in
+    let same : take count l ≡ take count' l' = cc (e.0, e.1) in
+    (e.0, (e.1, links_single (subst (λ (ls : List Leg). AllLinked ls old new) same a) b))

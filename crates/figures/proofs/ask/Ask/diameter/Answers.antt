@@ -8,14 +8,10 @@ use Rattle.figures.specs.Promises.{asked, room, takes, DiameterPromise}
 use Rattle.figures.proofs.Answering.{end_fulfils}
 use Rattle.figures.proofs.ask.Ask.diameter.Goals as goal
 
-pub returns-in-Ok : goal.returns-in-Ok
+pub returns : goal.returns
 unfolding DiameterPromise
-returns-in-Ok c =
+returns c =
     let q = asked c.args.self in
     let scratch = c.args.scratch.now in
     let new = c.diameter_end.new.scratch in
-    rw c.from.ensures (end_fulfils (table q (takes [] [] (room scratch scratch_places ∷ []))) (Pairs q) (Bounds q) (Wiped scratch new) (new ≡ scratch) c.in-Ok.st c.in-Ok.ensures)
-
-pub returns-in-Err : goal.returns-in-Err
-unfolding DiameterPromise
-returns-in-Err c = rw c.from-in-Err.ensures c.in-Err.ensures
+    rw c.from.ensures (end_fulfils (table q (takes [] [] (room scratch scratch_places ∷ []))) (Pairs q) (Bounds q) (Wiped scratch new) (new ≡ scratch) c.diameter_end.result c.diameter_end.ensures)
