@@ -5,6 +5,7 @@ ghost use Rattle.figures_c.specs.Reply.{filled_reply, eccentricity_reply, Replie
 use crate::reply::Reply;
 use figures::Ask;
 
+#[tactic(auto, unfolding(crate::specs::Reply::Replied))]
 #[unsafe(no_mangle)]
 pub extern "C" fn figures_distances_to(
     list: &[u32],
@@ -19,10 +20,17 @@ pub extern "C" fn figures_distances_to(
 )
     ensures { Replied filled_reply (λ x. DistancesToPromise (ask list.now n asker a w) target out.old scratch.old x out.new scratch.new) reply.new }
 {
-    let ask = Ask { list, n, asker, a, w };
+    let ask = Ask {
+        list,
+        n,
+        asker,
+        a,
+        w,
+    };
     *reply = ask.distances_to(target, out, scratch).reply();
 }
 
+#[tactic(auto, unfolding(crate::specs::Reply::Replied))]
 #[unsafe(no_mangle)]
 pub extern "C" fn figures_backward_eccentricity(
     list: &[u32],
@@ -36,6 +44,12 @@ pub extern "C" fn figures_backward_eccentricity(
 )
     ensures { Replied eccentricity_reply (λ x. BackwardEccentricityPromise (ask list.now n asker a w) stop scratch.old x scratch.new) reply.new }
 {
-    let ask = Ask { list, n, asker, a, w };
+    let ask = Ask {
+        list,
+        n,
+        asker,
+        a,
+        w,
+    };
     *reply = ask.backward_eccentricity(stop, scratch).reply();
 }

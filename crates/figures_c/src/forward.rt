@@ -5,6 +5,7 @@ ghost use Rattle.figures_c.specs.Reply.{filled_reply, eccentricity_reply, Replie
 use crate::reply::Reply;
 use figures::Ask;
 
+#[tactic(auto, unfolding(crate::specs::Reply::Replied))]
 #[unsafe(no_mangle)]
 pub extern "C" fn figures_distances_from(
     list: &[u32],
@@ -18,10 +19,17 @@ pub extern "C" fn figures_distances_from(
 )
     ensures { Replied filled_reply (λ x. DistancesFromPromise (ask list.now n asker a w) source out.old x out.new) reply.new }
 {
-    let ask = Ask { list, n, asker, a, w };
+    let ask = Ask {
+        list,
+        n,
+        asker,
+        a,
+        w,
+    };
     *reply = ask.distances_from(source, out).reply();
 }
 
+#[tactic(auto, unfolding(crate::specs::Reply::Replied))]
 #[unsafe(no_mangle)]
 pub extern "C" fn figures_table(
     list: &[u32],
@@ -34,10 +42,17 @@ pub extern "C" fn figures_table(
 )
     ensures { Replied filled_reply (λ x. TablePromise (ask list.now n asker a w) out.old x out.new) reply.new }
 {
-    let ask = Ask { list, n, asker, a, w };
+    let ask = Ask {
+        list,
+        n,
+        asker,
+        a,
+        w,
+    };
     *reply = ask.table(out).reply();
 }
 
+#[tactic(auto, unfolding(crate::specs::Reply::Replied))]
 #[unsafe(no_mangle)]
 pub extern "C" fn figures_forward_eccentricity(
     list: &[u32],
@@ -50,6 +65,12 @@ pub extern "C" fn figures_forward_eccentricity(
 )
     ensures { Replied eccentricity_reply (ForwardEccentricityPromise (ask list.now n asker a w) stop) reply.new }
 {
-    let ask = Ask { list, n, asker, a, w };
+    let ask = Ask {
+        list,
+        n,
+        asker,
+        a,
+        w,
+    };
     *reply = ask.forward_eccentricity(stop).reply();
 }

@@ -5,6 +5,7 @@ ghost use Rattle.figures_c.specs.Reply.{answer_reply, Replied};
 use crate::reply::Reply;
 use figures::Ask;
 
+#[tactic(auto, unfolding(crate::specs::Reply::Replied))]
 #[unsafe(no_mangle)]
 pub extern "C" fn figures_diameter(
     list: &[u32],
@@ -17,10 +18,17 @@ pub extern "C" fn figures_diameter(
 )
     ensures { Replied answer_reply (λ x. DiameterPromise (ask list.now n asker a w) scratch.old x scratch.new) reply.new }
 {
-    let ask = Ask { list, n, asker, a, w };
+    let ask = Ask {
+        list,
+        n,
+        asker,
+        a,
+        w,
+    };
     *reply = ask.diameter(scratch).reply();
 }
 
+#[tactic(auto, unfolding(crate::specs::Reply::Replied))]
 #[unsafe(no_mangle)]
 pub extern "C" fn figures_pivot_diameter(
     list: &[u32],
@@ -34,6 +42,12 @@ pub extern "C" fn figures_pivot_diameter(
 )
     ensures { Replied answer_reply (λ x. PivotDiameterPromise (ask list.now n asker a w) pivots.now scratch.old x scratch.new) reply.new }
 {
-    let ask = Ask { list, n, asker, a, w };
+    let ask = Ask {
+        list,
+        n,
+        asker,
+        a,
+        w,
+    };
     *reply = ask.pivot_diameter(pivots, scratch).reply();
 }
