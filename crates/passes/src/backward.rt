@@ -8,18 +8,11 @@ use crate::forward::UNREACHED;
 use crate::legs::{Leg, leg_no};
 use crate::linked::LinkedLegs;
 
-// The arrival at the target by a leg, if x is the earliest by what may follow it.
-fn arrival_by(leg: Leg, target: u32, x: u32) -> u32
-    ensures { result ≡ cond (eqb leg.to target) leg.arrive.0 x }
+// The earliest arrival at the target from a stop: `there` where the stop is the target, else x.
+fn arrival_from(stop: u32, target: u32, there: u32, x: u32) -> u32
+    ensures { result ≡ cond (eqb stop target) there x }
 {
-    if leg.to == target { leg.arrive.0 } else { x }
-}
-
-// The distance from a stop where x is the earliest arrival at the target.
-fn distance_to(u: u32, target: u32, x: u32) -> u32
-    ensures { result ≡ cond (eqb u target) 0 x }
-{
-    if u == target { 0 } else { x }
+    if stop == target { there } else { x }
 }
 
 impl LinkedLegs<'_> {
@@ -29,8 +22,9 @@ impl LinkedLegs<'_> {
     {
         best[0] = UNREACHED;
         for k in (1..=self.legs.len()).rev() {
+            let leg = leg_no(self.legs, k);
             let later = best[self.links.follow[k] as usize];
-            let own = arrival_by(leg_no(self.legs, k), target, later);
+            let own = arrival_from(leg.to, target, leg.arrive.0, later);
             let beside = best[self.links.next[k] as usize];
             best[k] = own.min(beside);
         }
@@ -47,7 +41,7 @@ impl LinkedLegs<'_> {
         self.sweep(target, &mut best);
         for u in 0..n {
             let x = best[self.links.head[u] as usize];
-            out[u] = distance_to(u as u32, target, x);
+            out[u] = arrival_from(u as u32, target, 0, x);
         }
     }
 }

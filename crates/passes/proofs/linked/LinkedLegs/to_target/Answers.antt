@@ -18,8 +18,8 @@ loop-u-preserved c =
     let ls = legs_in self.legs.now in
     let new = distances_to args.target ls args.n 0 in
     let reached = swept_head self.legs.now self.orderly args.target c.sweep.new.best links.head links.next links.follow loop.u self.linked c.sweep.ensures.swept (omega arith) in
-    let is : c.distance_to.result ≡ get_or new loop.u 0 = c.distance_to.ensures ∙ (rw reached (sym (distances_at args.target ls args.n loop.u c.loop-u-test.true))) in
-    fill_one new args.out.now loop.u c.distance_to.result loop.out (omega (arith, length_distances args.target ls args.n 0)) (omega arith) loop.invariant is
+    let is : c.arrival_from.result ≡ get_or new loop.u 0 = c.arrival_from.ensures ∙ (rw reached (sym (distances_at args.target ls args.n loop.u c.loop-u-test.true))) in
+    fill_one new args.out.now loop.u c.arrival_from.result loop.out (omega (arith, length_distances args.target ls args.n 0)) (omega arith) loop.invariant is
 
 pub returns : goal.returns
 returns c =
