@@ -31,7 +31,6 @@ impl LinkedLegs<'_> {
     }
 
     // The distances to the target from the first n stops.
-    #[tactic(auto, using(crate::proofs::Sweeping::head_small))]
     pub fn to_target(&self, target: u32, n: usize, out: &mut [u32])
         requires n_le_most_stops { n ≤ most_stops }
         requires n_in_bounds { n ≤ length out.old }
@@ -39,9 +38,9 @@ impl LinkedLegs<'_> {
     {
         let mut best = [0u32; 2049];
         self.sweep(target, &mut best);
-        for u in 0..n {
+        for (u, distance) in out[..n].iter_mut().enumerate() {
             let x = best[self.links.head[u] as usize];
-            out[u] = arrival_from(u as u32, target, 0, x);
+            *distance = arrival_from(u as u32, target, 0, x);
         }
     }
 }
