@@ -5,7 +5,7 @@ ghost use Rattle.passes.specs.Legs.{legs_in};
 ghost use Rattle.passes.specs.Backward.{Sweeps, distances_to};
 
 use crate::forward::UNREACHED;
-use crate::legs::{Leg, leg_no};
+use crate::legs::leg_no;
 use crate::linked::LinkedLegs;
 
 // The earliest arrival at the target from a stop: `there` where the stop is the target, else x.

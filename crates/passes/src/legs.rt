@@ -1,10 +1,10 @@
 // Legs: own rows that lie in the interval, with their times as lengths since A.
-ghost use Rattle.std.specs.Prelude.{◌≡◌, ◌-◌, ◌/◌, ◌≤◌, ◌<◌, length};
+ghost use Rattle.std.specs.Prelude.{◌≡◌, ◌-◌, ◌/◌, ◌≤◌, length};
 ghost use Rattle.rules.specs.Clock.{horizon};
 ghost use Rattle.rules.specs.Day.{row_width, rows_of};
-ghost use Rattle.rules.specs.Lent.{Kept, Copied};
+ghost use Rattle.rules.specs.Lent.{Copied};
 ghost use Rattle.day.specs.Rows.{row_of};
-ghost use Rattle.passes.specs.Legs.{leg_of, fitsb, legs_of, alone, LegRead, made_leg};
+ghost use Rattle.passes.specs.Legs.{legs_of, alone, LegRead, made_leg};
 
 use clock::{Length, Reading};
 use day::{ROW_WIDTH, Row, row_at};
@@ -30,7 +30,7 @@ impl Leg {
 
 // The leg with number k, which is leg k - 1 of the legs.
 pub(crate) fn leg_no(legs: &[Leg], k: usize) -> Leg
-    requires some { 1 ≤ k }
+    requires from_one { 1 ≤ k }
     requires within { k ≤ length legs.now }
     ensures { LegRead legs.now (k - 1) result }
 {
