@@ -1,10 +1,11 @@
 -- A list that is filled from the front, one place after another.
-use Prim.Native.Nat.{ℕ, suc, ◌+◌, ◌<◌}
-use mathlib.Core.Path.{◌≡◌, sym, ap, ◌∙◌}
-use mathlib.Core.List.{List, [], ◌∷◌, ◌++◌, append_assoc}
+use Prim.Native.Nat.{ℕ, suc, ◌+◌, ◌<◌, ◌≤◌}
+use mathlib.Core.Path.{◌≡◌, sym, ◌∙◌}
+use mathlib.Core.List.{List, [], ◌∷◌, ◌++◌, append_assoc, append-nil}
 use native.Mathlib.Omega.{arith}
 use native.Mathlib.Numerals.{add-one}
 use lib.ListN.{length, get_or, set, take, drop}
+use Rattle.std.proofs.Common.{drop_of_length-le}
 use lib.Seq.{length-take-le, take-suc, take_all, drop-cons, set_at}
 
 -- k places hold the new numbers, and the rest is kept
@@ -16,5 +17,8 @@ fill_one new old k v xs a b h e =
     rw (h, e, drop-cons old k 0 b, set_at (take k new) (get_or old k 0) (drop (suc k) old) (get_or new k 0) k (length-take-le k new (omega arith)), add-one k, take-suc new k 0 a)
     (sym (append_assoc (take k new) (get_or new k 0 ∷ []) (drop (suc k) old)))
 
-pub fill_end : (new old : List ℕ) (k : ℕ) (xs : List ℕ) → length new ≡ k → Filled new old k xs → xs ≡ new ++ drop k old
-fill_end new old k xs e h = h ∙ ap (λ (l : List ℕ). l ++ drop k old) (take_all k new (omega arith))
+pub fill_end : (new old : List ℕ) (k : ℕ) (xs : List ℕ) → length new ≡ k → length old ≡ k → Filled new old k xs → xs ≡ new
+fill_end new old k xs e f h =
+    let a : length new ≤ k = omega arith in
+    let b : length old ≤ k = omega arith in
+    h ∙ (rw (take_all k new a, drop_of_length-le old b) (append-nil new))

@@ -5,21 +5,14 @@ ghost use Rattle.passes.specs.Legs.{legs_in};
 ghost use Rattle.passes.specs.Backward.{Sweeps, distances_to};
 
 use crate::forward::UNREACHED;
-use crate::legs::{Leg, leg_no};
+use crate::legs::leg_no;
 use crate::linked::LinkedLegs;
 
-// The arrival at the target by a leg, if x is the earliest by what may follow it.
-fn arrival_by(leg: Leg, target: u32, x: u32) -> u32
-    ensures { result ≡ cond (eqb leg.to target) leg.arrive.0 x }
+// The earliest arrival at the target from a stop: `there` where the stop is the target, else x.
+fn arrival_from(stop: u32, target: u32, there: u32, x: u32) -> u32
+    ensures { result ≡ cond (eqb stop target) there x }
 {
-    if leg.to == target { leg.arrive.0 } else { x }
-}
-
-// The distance from a stop where x is the earliest arrival at the target.
-fn distance_to(u: u32, target: u32, x: u32) -> u32
-    ensures { result ≡ cond (eqb u target) 0 x }
-{
-    if u == target { 0 } else { x }
+    if stop == target { there } else { x }
 }
 
 impl LinkedLegs<'_> {
@@ -29,15 +22,15 @@ impl LinkedLegs<'_> {
     {
         best[0] = UNREACHED;
         for k in (1..=self.legs.len()).rev() {
+            let leg = leg_no(self.legs, k);
             let later = best[self.links.follow[k] as usize];
-            let own = arrival_by(leg_no(self.legs, k), target, later);
+            let own = arrival_from(leg.to, target, leg.arrive.0, later);
             let beside = best[self.links.next[k] as usize];
             best[k] = own.min(beside);
         }
     }
 
     // The distances to the target from the first n stops.
-    #[tactic(auto, using(crate::proofs::Sweeping::head_small))]
     pub fn to_target(&self, target: u32, n: usize, out: &mut [u32])
         requires n_le_most_stops { n ≤ most_stops }
         requires n_in_bounds { n ≤ length out.old }
@@ -45,9 +38,9 @@ impl LinkedLegs<'_> {
     {
         let mut best = [0u32; 2049];
         self.sweep(target, &mut best);
-        for u in 0..n {
+        for (u, distance) in out[..n].iter_mut().enumerate() {
             let x = best[self.links.head[u] as usize];
-            out[u] = distance_to(u as u32, target, x);
+            *distance = arrival_from(u as u32, target, 0, x);
         }
     }
 }

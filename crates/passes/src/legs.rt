@@ -1,10 +1,10 @@
 // Legs: own rows that lie in the interval, with their times as lengths since A.
-ghost use Rattle.std.specs.Prelude.{◌≡◌, ◌-◌, ◌/◌, ◌≤◌, ◌<◌, length};
+ghost use Rattle.std.specs.Prelude.{◌≡◌, ◌-◌, ◌/◌, ◌≤◌, length};
 ghost use Rattle.rules.specs.Clock.{horizon};
 ghost use Rattle.rules.specs.Day.{row_width, rows_of};
-ghost use Rattle.rules.specs.Lent.{Kept, Copied};
+ghost use Rattle.rules.specs.Lent.{Copied};
 ghost use Rattle.day.specs.Rows.{row_of};
-ghost use Rattle.passes.specs.Legs.{leg_of, fitsb, legs_of, alone, LegRead, made_leg};
+ghost use Rattle.passes.specs.Legs.{legs_of, alone, LegRead, made_leg};
 
 use clock::{Length, Reading};
 use day::{ROW_WIDTH, Row, row_at};
@@ -30,7 +30,7 @@ impl Leg {
 
 // The leg with number k, which is leg k - 1 of the legs.
 pub(crate) fn leg_no(legs: &[Leg], k: usize) -> Leg
-    requires some { 1 ≤ k }
+    requires from_one { 1 ≤ k }
     requires within { k ≤ length legs.now }
     ensures { LegRead legs.now (k - 1) result }
 {
@@ -56,19 +56,6 @@ fn make_leg(r: Row, a: Reading, w: Reading) -> Option<Leg>
     })
 }
 
-// Keeps a row as a leg after k others, if it lies in the interval; answers how many legs there are then.
-fn keep_leg(legs: &mut [Leg], k: usize, r: Row, a: Reading, w: Reading) -> usize
-    requires w_in_day { w.0 ≤ horizon }
-    requires room { k < length legs.old }
-    ensures { Kept 1 alone (fitsb a.0 w.0 (row_of r)) (leg_of a.0 (row_of r)) k legs.old result legs.new }
-{
-    let Some(leg) = make_leg(r, a, w) else {
-        return k;
-    };
-    legs[k] = leg;
-    k + 1
-}
-
 // Lays out the legs of the rows at the front of `legs`, in their order, and answers their number.
 pub fn make_legs(rows: &[u32], a: Reading, w: Reading, legs: &mut [Leg]) -> usize
     requires { (w.0 ≤ horizon) × (length rows.now / row_width ≤ length legs.old) }
@@ -76,7 +63,10 @@ pub fn make_legs(rows: &[u32], a: Reading, w: Reading, legs: &mut [Leg]) -> usiz
 {
     let mut k = 0;
     for i in 0..rows.len() / ROW_WIDTH {
-        k = keep_leg(legs, k, row_at(rows, i), a, w);
+        if let Some(leg) = make_leg(row_at(rows, i), a, w) {
+            legs[k] = leg;
+            k += 1;
+        }
     }
     k
 }

@@ -1,6 +1,6 @@
 -- Stretches of n places, one after another.
 use Prim.Native.Nat.{ℕ, zero, suc, ◌+◌, ◌*◌, ◌-◌, ◌≤◌, ◌<◌}
-use Rattle.std.proofs.Common.{suc-mul, add-one, ◌∙◌, append_assoc, append-nil, length-drop, drop_of_length-le, take_at, drop_at, take_all, drop-drop, get_or-append-add}
+use Rattle.std.proofs.Common.{suc-mul, add-one, ap, ◌∙◌, append_assoc, append-nil, length-drop, drop_of_length-le, take_at, drop_at, take_all, drop-drop, get_or-append-add}
 use Rattle.std.proofs.Math.Nat.{mul-le-mul_right, zero-mul}
 use native.Mathlib.Omega.{arith}
 use Rattle.std.proofs.Math.Decide.{dec_lt}
@@ -47,6 +47,10 @@ module _ (n : ℕ) (stretch : ℕ → List ℕ) (wide : (u : ℕ) → length (st
   pub table_none : old ≡ stretches stretch 0 ++ drop (0 * n) old
   unfolding stretches
   table_none = rw zero-mul
+
+  pub table_length : (k : ℕ) (out : List ℕ) → k * n ≤ length old → out ≡ stretches stretch k ++ drop (k * n) old → length out ≡ length old
+  table_length k out h e =
+      ap length e ∙ (length-append (stretches stretch k) (drop (k * n) old) ∙ omega (arith, length_stretches n stretch wide k, length-drop (k * n) old))
 
   stretches_next : (k : ℕ) → stretches stretch (k + 1) ≡ stretches stretch k ++ stretch k
   unfolding stretches

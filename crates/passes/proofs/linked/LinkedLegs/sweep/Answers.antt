@@ -16,9 +16,9 @@ loop-k-preserved c =
     let links = self.links.now in
     let loop = c.loop-k in
     let on = c.loop-k-test.true in
-    let leg = c.leg_no in (
+    let leg = c.leg_no-leg in (
       omega arith,
-      sweep_one self.legs.now self.orderly links.next links.follow self.linked.threads c.args.target loop.k on loop.invariant.0 loop.best leg.result c.arrival_by-own.result c.min.result loop.invariant.1 leg.ensures
-          c.arrival_by-own.ensures c.min.ensures,
+      sweep_one self.legs.now self.orderly links.next links.follow self.linked.threads c.args.target loop.k on loop.invariant.0 loop.best leg.result c.arrival_from-own.result c.min.result loop.invariant.1 leg.ensures
+          c.arrival_from-own.ensures c.min.ensures,
       beside_one _ loop.k _ _ _ on loop.invariant.0 loop.invariant.2,
     )
