@@ -3,7 +3,7 @@ use Rattle.std.specs.Prelude.{ℕ, ◌≤◌, ◌≡◌, refl, Option, Some, Non
 use Rattle.std.specs.Borrow.{Bor}
 use Rattle.std.specs.declared.ops.ControlFlow.{ControlFlow}
 use Rattle.std.specs.declared.ops.ControlFlow.TheVariants.{Continue, Break}
-use Rattle.std.proofs.Common.{arith}
+use Rattle.std.proofs.Common.{subst, arith}
 use Rattle.taking.specs.declared.state.Desk.{Desk}
 use Rattle.taking.specs.Pieces.{start}
 use Rattle.taking.specs.Room.{most_bytes, out_room, Begun, stand_of, PieceWent, PieceTaken, EndTaken, BytesTaken, ReadTaken}
@@ -26,11 +26,11 @@ read_ended read bytes d d₀ d' end h is none stand same_out = rw is (go bytes.n
 pub read_piece : (read : Option (Bor (List ℕ))) (bytes : Bor (List ℕ)) (d d₀ : Desk) (r : ControlFlow ℕ (Unit {0})) (d' : Desk) → PieceTaken bytes.now d₀.day.made d₀ r d' → read ≡ Some bytes → 1 ≤ length bytes.now
     → d₀.day.made ≡ 0 → stand_of d₀ ≡ stand_of d → d₀.out ≡ d.out → d₀.day.rows ≡ d.day.rows → d₀.day.pivots ≡ d.day.pivots → d₀.list ≡ d.list → d₀.pivots ≡ d.pivots
     → ReadTaken read d r d'
-read_piece read bytes d d₀ r d' h is more made stand same_out rows pivots list same_pivots = rw is (some bytes.now more (piece r h))
+read_piece read bytes d d₀ r d' h is more made stand same_out rows pivots list same_pivots = rw is (some bytes.now more (piece r (subst (λ (k : ℕ). PieceTaken bytes.now k d₀ r d') made h)))
   where
-    piece : (r : ControlFlow ℕ (Unit {0})) → PieceTaken bytes.now d₀.day.made d₀ r d' → PieceTaken bytes.now 0 d r d'
-    piece (Continue u) h = anew_went bytes.now d d₀ made stand same_out d' rows pivots list same_pivots h
-    piece (Break end) h = anew_halts bytes.now d d₀ made stand same_out end d'.out h
+    piece : (r : ControlFlow ℕ (Unit {0})) → PieceTaken bytes.now 0 d₀ r d' → PieceTaken bytes.now 0 d r d'
+    piece (Continue u) h = anew_went bytes.now 0 d d₀ stand same_out d' rows pivots list same_pivots h
+    piece (Break end) h = anew_halts bytes.now 0 d d₀ stand same_out end d'.out h
 
     some : (bs : List ℕ) → 1 ≤ length bs → PieceTaken bs 0 d r d' → BytesTaken bs d r d'
     some [] e h = absurd (omega arith)
