@@ -3,15 +3,41 @@ use Rattle.std.specs.Prelude.{ℕ, ◌≤◌, ◌≡◌, refl, Option, Some, Non
 use Rattle.std.specs.Borrow.{Bor}
 use Rattle.std.specs.declared.ops.ControlFlow.{ControlFlow}
 use Rattle.std.specs.declared.ops.ControlFlow.TheVariants.{Continue, Break}
-use Rattle.std.proofs.Common.{subst, arith}
+use Rattle.std.proofs.Common.{subst, arith, ◌∙◌}
+use Rattle.std.specs.Coded.{le_prop}
+use Rattle.std.proofs.Math.Path.{sym, to_path_p}
+use Rattle.rules.specs.Day.{most_rows}
+use Rattle.rules.specs.Pivots.{most_pivots}
+use Rattle.taking.specs.declared.state.Day.{Day}
 use Rattle.taking.specs.declared.state.Desk.{Desk}
-use Rattle.taking.specs.Pieces.{start}
+use Rattle.taking.specs.Pieces.{longest, start}
 use Rattle.taking.specs.Room.{most_bytes, out_room, Begun, stand_of, PieceWent, PieceTaken, EndTaken, BytesTaken, ReadTaken}
 use Rattle.taking.specs.Laws.Bytes.{anew_went, anew_halts, anew_end}
 
 -- at first the run stands at the start
 pub stands_at_start : (d : Desk) → Begun d.day → stand_of d ≡ start
 stands_at_start d b = rw (b.stops, b.rows, b.pivots, b.line, b.len) refl
+
+-- there is one such day
+pub begun_single : (day day' : Day) → Begun day → Begun day' → day ≡ day'
+begun_single day day' b b' =
+    let stops : day.stops ≡ day'.stops = b.stops ∙ sym b'.stops in
+    let rows : day.rows ≡ day'.rows = b.rows ∙ sym b'.rows in
+    let pivots : day.pivots ≡ day'.pivots = b.pivots ∙ sym b'.pivots in
+    let line : day.line ≡ day'.line = b.line ∙ sym b'.line in
+    let len : day.len ≡ day'.len = b.len ∙ sym b'.len in
+    let made : day.made ≡ day'.made = b.made ∙ sym b'.made in
+    λ i. record {
+      stops = stops i;
+      rows = rows i;
+      pivots = pivots i;
+      line = line i;
+      len = len i;
+      made = made i;
+      few_rows = to_path_p (λ j. rows j ≤ most_rows) {a = day.few_rows} (le_prop _ day'.few_rows) i;
+      few_pivots = to_path_p (λ j. pivots j ≤ most_pivots) {a = day.few_pivots} (le_prop _ day'.few_pivots) i;
+      short = to_path_p (λ j. len j ≤ longest) {a = day.short} (le_prop _ day'.short) i;
+    }
 
 -- the input ended
 pub read_ended : (read : Option (Bor (List ℕ))) (bytes : Bor (List ℕ)) (d d₀ d' : Desk) (end : ℕ) → EndTaken d₀ end d'.out → read ≡ Some bytes → length bytes.now ≡ 0 → stand_of d₀ ≡ stand_of d → d₀.out ≡ d.out
