@@ -139,7 +139,7 @@ abbrev pub BytesTaken : (bytes : List ℕ) → Desk → ControlFlow ℕ (Unit {0
 BytesTaken [] d r d' = (end : ℕ) × (r ≡ Break end) × EndTaken d end d'.out
 BytesTaken (b ∷ bs) d r d' = PieceTaken (b ∷ bs) 0 d r d'
 
--- what a read led to: it failed, and nothing is printed; or it read some bytes
+-- what a read led to: it failed, nothing is printed, and the desk is as it was; or it read some bytes
 abbrev pub ReadTaken : Option (Bor (List ℕ)) → Desk → ControlFlow ℕ (Unit {0}) → Desk → Type 0
-ReadTaken None d r d' = (r ≡ Break 0) × (d'.out ≡ d.out)
+ReadTaken None d r d' = (r ≡ Break 0) × (d' ≡ d)
 ReadTaken (Some bytes) d r d' = BytesTaken bytes.now d r d'

@@ -1,5 +1,5 @@
 // What was read so far, and the rooms for it.
-ghost use Rattle.std.specs.Prelude.{◌≡◌, ◌*◌, ◌≤◌, length};
+ghost use Rattle.std.specs.Prelude.{◌≡◌, ◌*◌, ◌≤◌, length, replicate};
 ghost use Rattle.rules.specs.Day.{most_rows, row_width};
 ghost use Rattle.rules.specs.Pivots.{most_pivots};
 ghost use Rattle.rules.specs.Lent.{scratch_places};
@@ -73,10 +73,15 @@ impl Day {
 }
 
 impl Desk {
-    ghost use Rattle.taking.specs.Room.{Begun};
+    ghost use Rattle.taking.specs.Room.{Begun, out_room};
 
     pub fn new() -> Self
-        ensures { Begun result.day }
+        ensures begun { Begun result.day }
+        ensures line { result.line ≡ replicate longest 0 }
+        ensures list { result.list ≡ replicate (most_rows * row_width) 0 }
+        ensures pivots { result.pivots ≡ replicate (most_pivots * pivot_width) 0 }
+        ensures scratch { result.scratch ≡ replicate scratch_places 0 }
+        ensures out { result.out ≡ replicate out_room 0 }
     {
         Desk {
             line: [0; LONGEST],

@@ -149,23 +149,23 @@ bytes_none d =
     }
 
 -- how many bytes were made before does not tell
-module _ (p : List ℕ) (d d₀ : Desk) (at_zero : d₀.day.made ≡ 0) (stand : stand_of d₀ ≡ stand_of d) (same_out : d₀.out ≡ d.out) where
-  pub anew_went : (d' : Desk) → d₀.day.rows ≡ d.day.rows → d₀.day.pivots ≡ d.day.pivots → d₀.list ≡ d.list → d₀.pivots ≡ d.pivots → PieceWent p d₀.day.made d₀ d' → PieceWent p 0 d d'
+module _ (p : List ℕ) (at : ℕ) (d d₀ : Desk) (stand : stand_of d₀ ≡ stand_of d) (same_out : d₀.out ≡ d.out) where
+  pub anew_went : (d' : Desk) → d₀.day.rows ≡ d.day.rows → d₀.day.pivots ≡ d.day.pivots → d₀.list ≡ d.list → d₀.pivots ≡ d.pivots → PieceWent p at d₀ d' → PieceWent p at d d'
   anew_went d' rows pivots list same_pivots h =
       let line : d₀.day.line ≡ d.day.line = λ i. (stand i).line in
       let k = h.keeps in
       record {
         text = h.text;
         went = subst (λ (s : Stand). Went s p (stand_of d') h.text) stand h.went;
-        puts = rw (at_zero, same_out) at h.puts;
+        puts = rw same_out at h.puts;
         few_lines = omega (arith, h.few_lines);
         few_bytes = h.few_bytes;
         keeps = record { more_rows = rw rows at k.more_rows; more_pivots = rw pivots at k.more_pivots; list_kept = rw list at k.list_kept; pivots_kept = rw same_pivots at k.pivots_kept };
       }
 
-  pub anew_halts : (end : ℕ) (out' : List ℕ) → PieceHalts p d₀.day.made d₀ end out' → PieceHalts p 0 d end out'
+  pub anew_halts : (end : ℕ) (out' : List ℕ) → PieceHalts p at d₀ end out' → PieceHalts p at d end out'
   anew_halts end out' h =
-      record { text = h.text; halts = subst (λ (s : Stand). Halts s p h.text) stand h.halts; puts = rw (at_zero, same_out) at h.puts; fits = h.fits }
+      record { text = h.text; halts = subst (λ (s : Stand). Halts s p h.text) stand h.halts; puts = rw same_out at h.puts; fits = h.fits }
 
 -- within a piece there is room for what the next byte prints
 pub spare_now : (bytes : List ℕ) (i : ℕ) (d d' : Desk) → i < length bytes → Spare (length bytes) d.day → PieceWent (take i bytes) d.day.made d d' → Spare 1 d'.day
@@ -189,8 +189,8 @@ abbrev pub made_by : ControlFlow ℕ (Unit {0}) → Desk → ℕ
 made_by (Continue u) d = d.day.made
 made_by (Break end) d = end
 
-pub end_line : (d : Desk) (r : ControlFlow ℕ (Unit {0})) (d' : Desk) → Spare 1 d.day → d.day.made ≡ 0 → 1 ≤ d.day.len → LineTaken d r d' → EndTaken d (made_by r d') d'.out
-end_line d r d' s z l h = go r h
+pub end_line : (d : Desk) (r : ControlFlow ℕ (Unit {0})) (d' : Desk) → d.day.made ≡ 0 → 1 ≤ d.day.len → LineTaken d r d' → EndTaken d (made_by r d') d'.out
+end_line d r d' z l h = go r h
   where
     there : last_line (take d.day.len d.line) ≡ take d.day.len d.line ∷ []
     there = let long = d.line_long in let short = d.day.short in one_last (take d.day.len d.line) (omega (arith, length-take-le d.day.len d.line (omega arith)))
@@ -201,10 +201,10 @@ end_line d r d' s z l h = go r h
           text = h.text;
           prints = rw there (to_end (subst (λ (x : List ℕ). Taken (known_of d) (take d.day.len d.line ∷ []) (known_of d') x) (append-nil h.text) (one_line h.tells no_line)));
           puts = rw z at h.puts;
-          fits = omega (arith, s.lines, h.short, h.puts.after);
+          fits = omega (arith, z, h.short, h.puts.after);
         }
     go (Break end) h =
-        record { text = h.named.text; prints = rw there (to_stop (at_this h.no_frame h.named.line)); puts = rw z at h.named.puts; fits = omega (arith, s.lines, h.named.short, h.named.puts.after) }
+        record { text = h.named.text; prints = rw there (to_stop (at_this h.no_frame h.named.line)); puts = rw z at h.named.puts; fits = omega (arith, z, h.named.short, h.named.puts.after) }
 
 -- the run ends the same way, however many bytes were made before
 pub anew_end : (d d₀ : Desk) → stand_of d₀ ≡ stand_of d → d₀.out ≡ d.out → (end : ℕ) (out' : List ℕ) → EndTaken d₀ end out' → EndTaken d end out'

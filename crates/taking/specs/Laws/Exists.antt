@@ -55,7 +55,13 @@ room_for_row (row e h) = h
 pub room_for_pivot : {t t' : Known} {p s : ℕ} {x : List ℕ} → Does t (frame.Pivot p s) t' x → length t.pivots < most_pivots * pivot_width
 room_for_pivot (pivot e h) = h
 
--- every frame but the number of stops comes after it
+-- only a frame does anything, and every other than the number of stops comes after it
+pub is_frame : {t t' : Known} {x : List ℕ} (f : Frame) → Does t f t' x → 1 ≤ type_of f
+is_frame (frame.Stops n) (stops e) = omega arith
+is_frame (frame.Row a b c d o) (row e r) = omega arith
+is_frame (frame.Pivot p s) (pivot e r) = omega arith
+is_frame (frame.Ask x a w) (asks e r) = omega arith
+
 later : {t t' : Known} {x : List ℕ} (f : Frame) → 2 ≤ type_of f → Does t f t' x → (n : ℕ) × (t.stops ≡ Some n)
 later (frame.Stops n) h (stops e) = absurd (omega arith)
 later (frame.Row a b c d o) h (row {n} e r) = (n, e)

@@ -3,15 +3,41 @@ use Rattle.std.specs.Prelude.{ℕ, ◌≤◌, ◌≡◌, refl, Option, Some, Non
 use Rattle.std.specs.Borrow.{Bor}
 use Rattle.std.specs.declared.ops.ControlFlow.{ControlFlow}
 use Rattle.std.specs.declared.ops.ControlFlow.TheVariants.{Continue, Break}
-use Rattle.std.proofs.Common.{arith}
+use Rattle.std.proofs.Common.{subst, arith, ◌∙◌}
+use Rattle.std.specs.Coded.{le_prop}
+use Rattle.std.proofs.Math.Path.{sym, to_path_p}
+use Rattle.rules.specs.Day.{most_rows}
+use Rattle.rules.specs.Pivots.{most_pivots}
+use Rattle.taking.specs.declared.state.Day.{Day}
 use Rattle.taking.specs.declared.state.Desk.{Desk}
-use Rattle.taking.specs.Pieces.{start}
+use Rattle.taking.specs.Pieces.{longest, start}
 use Rattle.taking.specs.Room.{most_bytes, out_room, Begun, stand_of, PieceWent, PieceTaken, EndTaken, BytesTaken, ReadTaken}
 use Rattle.taking.specs.Laws.Bytes.{anew_went, anew_halts, anew_end}
 
 -- at first the run stands at the start
 pub stands_at_start : (d : Desk) → Begun d.day → stand_of d ≡ start
 stands_at_start d b = rw (b.stops, b.rows, b.pivots, b.line, b.len) refl
+
+-- there is one such day
+pub begun_single : (day day' : Day) → Begun day → Begun day' → day ≡ day'
+begun_single day day' b b' =
+    let stops : day.stops ≡ day'.stops = b.stops ∙ sym b'.stops in
+    let rows : day.rows ≡ day'.rows = b.rows ∙ sym b'.rows in
+    let pivots : day.pivots ≡ day'.pivots = b.pivots ∙ sym b'.pivots in
+    let line : day.line ≡ day'.line = b.line ∙ sym b'.line in
+    let len : day.len ≡ day'.len = b.len ∙ sym b'.len in
+    let made : day.made ≡ day'.made = b.made ∙ sym b'.made in
+    λ i. record {
+      stops = stops i;
+      rows = rows i;
+      pivots = pivots i;
+      line = line i;
+      len = len i;
+      made = made i;
+      few_rows = to_path_p (λ j. rows j ≤ most_rows) {a = day.few_rows} (le_prop _ day'.few_rows) i;
+      few_pivots = to_path_p (λ j. pivots j ≤ most_pivots) {a = day.few_pivots} (le_prop _ day'.few_pivots) i;
+      short = to_path_p (λ j. len j ≤ longest) {a = day.short} (le_prop _ day'.short) i;
+    }
 
 -- the input ended
 pub read_ended : (read : Option (Bor (List ℕ))) (bytes : Bor (List ℕ)) (d d₀ d' : Desk) (end : ℕ) → EndTaken d₀ end d'.out → read ≡ Some bytes → length bytes.now ≡ 0 → stand_of d₀ ≡ stand_of d → d₀.out ≡ d.out
@@ -26,11 +52,11 @@ read_ended read bytes d d₀ d' end h is none stand same_out = rw is (go bytes.n
 pub read_piece : (read : Option (Bor (List ℕ))) (bytes : Bor (List ℕ)) (d d₀ : Desk) (r : ControlFlow ℕ (Unit {0})) (d' : Desk) → PieceTaken bytes.now d₀.day.made d₀ r d' → read ≡ Some bytes → 1 ≤ length bytes.now
     → d₀.day.made ≡ 0 → stand_of d₀ ≡ stand_of d → d₀.out ≡ d.out → d₀.day.rows ≡ d.day.rows → d₀.day.pivots ≡ d.day.pivots → d₀.list ≡ d.list → d₀.pivots ≡ d.pivots
     → ReadTaken read d r d'
-read_piece read bytes d d₀ r d' h is more made stand same_out rows pivots list same_pivots = rw is (some bytes.now more (piece r h))
+read_piece read bytes d d₀ r d' h is more made stand same_out rows pivots list same_pivots = rw is (some bytes.now more (piece r (subst (λ (k : ℕ). PieceTaken bytes.now k d₀ r d') made h)))
   where
-    piece : (r : ControlFlow ℕ (Unit {0})) → PieceTaken bytes.now d₀.day.made d₀ r d' → PieceTaken bytes.now 0 d r d'
-    piece (Continue u) h = anew_went bytes.now d d₀ made stand same_out d' rows pivots list same_pivots h
-    piece (Break end) h = anew_halts bytes.now d d₀ made stand same_out end d'.out h
+    piece : (r : ControlFlow ℕ (Unit {0})) → PieceTaken bytes.now 0 d₀ r d' → PieceTaken bytes.now 0 d r d'
+    piece (Continue u) h = anew_went bytes.now 0 d d₀ stand same_out d' rows pivots list same_pivots h
+    piece (Break end) h = anew_halts bytes.now 0 d d₀ stand same_out end d'.out h
 
     some : (bs : List ℕ) → 1 ≤ length bs → PieceTaken bs 0 d r d' → BytesTaken bs d r d'
     some [] e h = absurd (omega arith)
