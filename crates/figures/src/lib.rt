@@ -16,5 +16,7 @@ mod widest;
 
 pub use answers::Answer;
 pub use ask::Ask;
+pub use checks::SCRATCH;
 pub use day::Refusal;
 pub use office::office_check;
+pub use pivots::{MOST_PIVOTS, PIVOT_WIDTH};

@@ -7,17 +7,10 @@ ghost use Rattle.taking.specs.Known.{pivot_width, Zeros, zeros_prop};
 ghost use Rattle.taking.specs.Pieces.{longest};
 
 use day::{MOST_ROWS, ROW_WIDTH};
-
-// How many numbers a pivot takes, and how many pivots are kept.
-pub(crate) const PIVOT_WIDTH: usize = 2;
-
-pub(crate) const MOST_PIVOTS: usize = 16;
+use figures::{MOST_PIVOTS, PIVOT_WIDTH, SCRATCH};
 
 // The length of the longest frame.
 pub(crate) const LONGEST: usize = 28;
-
-// How many places of scratch an ask wants.
-pub(crate) const SCRATCH: usize = 16384;
 
 // A piece has at most 4,096 bytes, and each may end a line that prints one of at most 84 bytes.
 pub const OUT_ROOM: usize = 344064;

@@ -3,8 +3,9 @@ ghost use Rattle.std.specs.Prelude.{◌≡◌, ◌*◌, length};
 ghost use Rattle.frames.specs.declared.frame.Frame.TheVariants.{Stops, Row, Pivot, Ask};
 ghost use Rattle.taking.specs.Room.{Spare, PutMore, FrameTaken};
 
-use crate::state::{Desk, MOST_PIVOTS, PIVOT_WIDTH};
+use crate::state::Desk;
 use day::{MOST_ROWS, ROW_WIDTH};
+use figures::{MOST_PIVOTS, PIVOT_WIDTH};
 use frames::Frame;
 use printing::answer_line;
 
