@@ -70,7 +70,13 @@ impl Desk {
         let end = self.day.rows * ROW_WIDTH;
         let last = self.day.pivots * PIVOT_WIDTH;
         let list = &self.list[..end];
-        let ask = figures::Ask { list, n, asker, a, w };
+        let ask = figures::Ask {
+            list,
+            n,
+            asker,
+            a,
+            w,
+        };
         let answer = ask.pivot_diameter(&self.pivots[..last], &mut self.scratch);
         self.day.made = answer_line(&mut self.out, self.day.made, answer);
         Some(())
