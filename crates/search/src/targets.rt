@@ -34,17 +34,20 @@ impl Place {
 }
 
 // The first target after `last`, of n stops with their bounds.
-#[tactic(auto, unfolding(crate::specs::Targets::next_in))]
 pub fn next_target(bounds: &[u32], n: usize, last: Place) -> Option<Place>
     requires { (n ≤ length bounds.now) × (n ≤ most_stops) }
     ensures { result ≡ next_in bounds.now last n }
 {
-    (0..n as u32)
-        .zip(bounds)
-        .map(|(stop, &bound)| Place {
+    let mut next: Option<Place> = None;
+    for (stop, &bound) in bounds[..n].iter().enumerate() {
+        let place = Place {
             bound: Reverse(bound),
-            stop,
-        })
-        .filter(|place| place.comes_after(last))
-        .min()
+            stop: stop as u32,
+        };
+        // Numbers rise, so of equal bounds the first stays.
+        if next.is_none_or(|found| found.bound.0 < bound) && place.comes_after(last) {
+            next = Some(place);
+        }
+    }
+    next
 }

@@ -6,12 +6,14 @@ use Rattle.std.specs.declared.cmp.Ordering.TheVariants.{Less, Equal, Greater}
 use Rattle.std.specs.Ordering.{MatchOrdering, nat_cmp, ordering_then, is_lt, min_by_ordering}
 use Rattle.std.specs.Cmp.{ranks}
 use Rattle.std.proofs.Math.Path.{refl}
-use Rattle.std.proofs.Common.{sym, ◌∙◌, subst, inl, inr, arith, ne_eqb}
+use Rattle.std.proofs.Common.{sym, ap, ◌∙◌, subst, inl, inr, arith, ne_eqb, ltb, MatchOption, ◌+◌}
 use Rattle.std.proofs.Math.Bool.{true, false}
 use Rattle.std.proofs.Math.Option.{some}
 use Rattle.std.proofs.Math.Decide.{ℕ_discrete}
-use Rattle.std.proofs.lemmas.Bool.{eqb-false}
+use Rattle.std.proofs.lemmas.Bool.{eqb-false, ltb-true, ltb-false}
 use Rattle.std.proofs.lemmas.List.Folds.{fold-map}
+use Rattle.std.proofs.lemmas.List.Sums.{fold_push}
+use Rattle.std.proofs.lemmas.List.FromFn.{map-range_with_len_more}
 use Rattle.rules.specs.Diameter.{Before, bound_falls, number_rises}
 use Rattle.rules.proofs.Laws.Order as order
 use Rattle.passes.specs.Forward.{nowhere}
@@ -211,3 +213,51 @@ module _ (bs : List ℕ) (last : Place) where
           go w b h x (yes e) = inl e
           go w b h (inl x) (no e) = inr (bound_falls {b = p.bound.0} {c = b} next_bound h x)
           go w b h (inr x) (no e) = inr (number_rises {b = b} (rw x.0 next_bound) h (omega arith))
+
+-- one stop more
+one_more : (bs : List ℕ) (last : Place) (k : ℕ) → next_in bs last (k + 1) ≡ chosen last (next_in bs last k) (place_in bs k)
+unfolding next_in
+one_more bs last k =
+    sym (chosen_first last None (map (place_in bs) (range_with_len 0 (k + 1))))
+    ∙ ap (fold (chosen last) None) (map-range_with_len_more (place_in bs) 0 k k (omega arith))
+    ∙ fold_push (chosen last) None (map (place_in bs) (range_with_len 0 k)) (place_in bs k)
+    ∙ ap (λ x. chosen last x (place_in bs k)) (chosen_first last None (map (place_in bs) (range_with_len 0 k)))
+
+-- so stop k is the next target where it comes after `last` and its bound is above that of the one so far, x
+module _ (bs : List ℕ) (last : Place) (k : ℕ) (x : Option Place) (h : x ≡ next_in bs last k) where
+  pub skipped : afterb last (place_in bs k) ≡ false → x ≡ next_in bs last (k + 1)
+  unfolding chosen
+  skipped e = h ∙ sym (one_more bs last k ∙ (rw e))
+
+  -- t: whether the bound is above
+  module _ (t : Bool) (m : MatchOption x (t ≡ true) (λ q. t ≡ ltb q.bound.0 (get_or bs k 0))) where
+    pub taken : t ≡ true → afterb last (place_in bs k) ≡ true → Some (place_in bs k) ≡ next_in bs last (k + 1)
+    unfolding chosen
+    taken y e = sym (one_more bs last k ∙ rw (e, ← h) (go x m))
+      where
+        pick : (q : Place) (o : Ordering) → q.bound.0 < get_or bs k 0 → Ordered q (place_in bs k) o → min_by_ordering o q (place_in bs k) ≡ place_in bs k
+        pick q Less l m = absurd (omega (arith, m))
+        pick q Equal l m = absurd (omega (arith, m))
+        pick q Greater l m = refl
+
+        go : (x : Option Place) → MatchOption x (t ≡ true) (λ q. t ≡ ltb q.bound.0 (get_or bs k 0)) → better (place_in bs k) x ≡ Some (place_in bs k)
+        go None m = refl
+        go (Some q) m = ap Some (pick q (in_order q (place_in bs k)) (ltb-true _ _ (sym m ∙ y)) (ordered q (place_in bs k)))
+
+    pub kept : t ≡ false → x ≡ next_in bs last (k + 1)
+    unfolding chosen
+    kept y = sym (one_more bs last k ∙ rw (← h) (either (afterb last (place_in bs k)) (go x h m)))
+      where
+        either : (c : Bool) → better (place_in bs k) x ≡ x → cond c (better (place_in bs k) x) x ≡ x
+        either true e = e
+        either false e = refl
+
+        pick : (q : Place) (o : Ordering) → q.stop < k → get_or bs k 0 ≤ q.bound.0 → Ordered q (place_in bs k) o → min_by_ordering o q (place_in bs k) ≡ q
+        pick q Less b l m = refl
+        pick q Equal b l m = refl
+        pick q Greater b l (inl m) = absurd (omega arith)
+        pick q Greater b l (inr m) = absurd (omega (arith, m.1))
+
+        go : (x : Option Place) → x ≡ next_in bs last k → MatchOption x (t ≡ true) (λ q. t ≡ ltb q.bound.0 (get_or bs k 0)) → better (place_in bs k) x ≡ x
+        go None h m = not_both m y
+        go (Some q) h m = ap Some (pick q (in_order q (place_in bs k)) ((next_bound bs last k q (sym h)).0) (ltb-false _ _ (sym m ∙ y)) (ordered q (place_in bs k)))

@@ -3,7 +3,6 @@ use Rattle.std.specs.Prelude.{ℕ, zero, suc, ◌+◌, ◌≤◌, ◌<◌, ◌�
 use Rattle.std.specs.List.{zip, range_with_len}
 use Rattle.std.proofs.Common.{arith, ap, ◌∙◌, drop-cons}
 use Rattle.std.proofs.Math.ListN.{get_or-append}
-use Rattle.std.proofs.lemmas.Simd.{map-map}
 use Rattle.std.proofs.lemmas.List.Folds.{fold-map}
 use Rattle.rules.specs.Words.{things_from}
 use Rattle.rules.proofs.Laws.Written.{length_things}
@@ -31,9 +30,6 @@ module _ (xs : List ℕ) where
 
   zip_places : (n : ℕ) → n ≤ length xs → zip (range_with_len 0 n) xs ≡ map (λ j. (j, get_or xs j 0)) (range_with_len 0 n)
   zip_places n l = zip_from n 0 (omega arith)
-
-  pub map_places : {A : Type 0} (f : ℕ × ℕ → A) (n : ℕ) → n ≤ length xs → map f (zip (range_with_len 0 n) xs) ≡ map (λ j. f (j, get_or xs j 0)) (range_with_len 0 n)
-  map_places f n l = ap (map f) (zip_places n l) ∙ map-map f (λ j. (j, get_or xs j 0)) (range_with_len 0 n)
 
   pub fold_places : {X : Type 0} (step : X → ℕ × ℕ → X) (x : X) (n : ℕ) → n ≤ length xs
       → fold step x (zip (range_with_len 0 n) xs) ≡ fold (λ x j. step x (j, get_or xs j 0)) x (range_with_len 0 n)

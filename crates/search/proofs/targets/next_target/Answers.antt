@@ -1,25 +1,25 @@
--- The least of the places that come after the last is the next target.
-use Rattle.std.proofs.Common.{rules, ℕ, arith, ◌∙◌, ap}
-use Rattle.std.specs.List.{filter, reduce}
-use Rattle.std.proofs.lemmas.Iterator.{YieldsList-from_map, YieldsList-from_slice, YieldsList-from_zip, YieldsList-from_range}
-use Rattle.std.proofs.lemmas.Iterator.Consumers.{reduce_from_yields_List, YieldsList-at, YieldsList-from_filter}
-use Rattle.search.specs.Targets.{afterb, first_of, next_in}
-use Rattle.search.specs.declared.targets.Place.{Place}
-use Rattle.search.proofs.Laws.Places.{map_places}
+-- The loop: one stop more.
+use Rattle.std.proofs.Common.{rules, ◌≡◌, ◌∙◌, sym, ℕ, arith, true, ltb, get_or, take, MatchOption}
+use Rattle.std.proofs.lemmas.List.{get_or-take, length-take}
+use Rattle.search.specs.Targets.{next_in}
+use Rattle.search.proofs.Laws.Chosen.{skipped, taken, kept}
 use Rattle.search.proofs.targets.next_target.Goals as goal
+use Rattle.search.proofs.targets.next_target.Goals.{then-is_none_or+then-comes_after, else-is_none_or, else-is_none_or-via-then-is_none_or+else-comes_after, else-is_none_or-via-else-is_none_or}
 
--- a stop's number with its bound
-abbrev place_of : ℕ × ℕ → Place
-place_of x = record { bound = record { 0 = x.1 }; stop = x.0 }
-
-pub returns : goal.returns
+pub loop-stop-init : goal.loop-stop-init
 unfolding next_in
-returns c =
-    reduce_from_yields_List first_of c.filter.result c.min.result c.min.ensures.ran
-    (YieldsList-from_filter _ (afterb c.args.last)
-    (YieldsList-at c.filter.ensures.source
-    (YieldsList-from_map _ place_of
-    (YieldsList-at c.map.ensures.source (YieldsList-from_zip (YieldsList-from_range 0 c.args.n c.args.n (search rules) (omega arith)) (YieldsList-from_slice c.args.bounds.now (search rules))))
-    c.map.ensures.closure (λ x r q k. search rules)))
-    c.filter.ensures.closure (λ x b q k. search rules))
-    ∙ ap (λ xs. reduce first_of (filter (afterb c.args.last) xs)) (map_places c.args.bounds.now place_of c.args.n c.requires.0)
+loop-stop-init c = search rules
+
+pub loop-stop-preserved : goal.loop-stop-preserved
+loop-stop-preserved c =
+    let same : get_or (take c.args.n c.args.bounds.now) c.loop-stop.stop 0 ≡ get_or c.args.bounds.now c.loop-stop.stop 0 =
+    get_or-take c.args.n c.args.bounds.now c.loop-stop.stop 0 (omega (arith, length-take {A = ℕ})) in
+    let above : MatchOption c.loop-stop.next (c.is_none_or.result ≡ true) (λ q. c.is_none_or.result ≡ ltb q.bound.0 (get_or c.args.bounds.now c.loop-stop.stop 0)) =
+    rw (← same) (search rules) in
+    elim c.if-is_none_or.branch [
+      | then-is_none_or+then-comes_after w ↦ (rw same at w.next-is) ∙ taken _ _ _ _ c.loop-stop.invariant _ above w.if-is_none_or.true (sym (rw same at w.comes_after.ensures) ∙ w.if-comes_after.true)
+      | else-is_none_or w ↦ w.next-is ∙ elim w.else-is_none_or.branch [
+        | else-is_none_or-via-then-is_none_or+else-comes_after w' ↦ skipped _ _ _ _ c.loop-stop.invariant (sym (rw same at w'.comes_after.ensures) ∙ w'.if-comes_after.false)
+        | else-is_none_or-via-else-is_none_or w' ↦ kept _ _ _ _ c.loop-stop.invariant _ above w'.if-is_none_or.false
+      ]
+    ]
