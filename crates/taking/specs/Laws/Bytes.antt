@@ -16,7 +16,7 @@ use Rattle.taking.specs.declared.state.Desk.{Desk}
 use Rattle.taking.specs.Known.{Known, pivot_width}
 use Rattle.taking.specs.Stream.{ended, left, last_line, Taken, no_line, one_line, at_this, Prints, to_end, to_stop}
 use Rattle.taking.specs.Pieces.{longest, Stand, Went, Halts, by_line, by_length}
-use Rattle.taking.specs.Room.{Spare, known_of, stand_of, Keeps, LineTaken, PieceWent, PieceHalts, PieceTaken, EndTaken}
+use Rattle.taking.specs.Room.{Ahead, Spare, known_of, stand_of, Keeps, LineTaken, PieceWent, PieceHalts, PieceTaken, EndTaken}
 use Rattle.taking.specs.Laws.Pieces.{went_went, went_halts, halts_more}
 
 module _ (b : ℕ) (d d' : Desk) where
@@ -168,8 +168,14 @@ module _ (p : List ℕ) (at : ℕ) (d d₀ : Desk) (stand : stand_of d₀ ≡ st
       record { text = h.text; halts = subst (λ (s : Stand). Halts s p h.text) stand h.halts; puts = rw same_out at h.puts; fits = h.fits }
 
 -- within a piece there is room for what the next byte prints
-pub spare_now : (bytes : List ℕ) (i : ℕ) (d d' : Desk) → i < length bytes → Spare (length bytes) d.day → PieceWent (take i bytes) d.day.made d d' → Spare 1 d'.day
+pub spare_now : (bytes : List ℕ) (i : ℕ) (d d' : Desk) → i < length bytes → Ahead (length bytes) d.day → PieceWent (take i bytes) 0 d d' → Spare 1 d'.day
 spare_now bytes i d d' l a h =
+    let e = length-take-le i bytes (omega arith) in
+    record { numbers = omega (arith, e, a.numbers, h.few_lines); lines = omega (arith, e, a.few, h.few_bytes, h.puts.after) }
+
+-- and after what was made before, where there was room for the whole piece
+pub spare_next : (bytes : List ℕ) (i : ℕ) (d d' : Desk) → i < length bytes → Spare (length bytes) d.day → PieceWent (take i bytes) d.day.made d d' → Spare 1 d'.day
+spare_next bytes i d d' l a h =
     let e = length-take-le i bytes (omega arith) in
     record { numbers = omega (arith, e, a.numbers, h.few_lines); lines = omega (arith, e, a.lines, h.few_bytes, h.puts.after) }
 
@@ -218,4 +224,4 @@ anew_end d d₀ stand same_out end out' h =
 
 pub ruleset one_byte = (byte_ends, byte_more, byte_too_many)
 
-pub ruleset bytes_so_far = (bytes_none, bytes_more, spare_now)
+pub ruleset bytes_so_far = (bytes_none, bytes_more, spare_next)
