@@ -5,4 +5,4 @@ mod lines;
 mod state;
 mod take;
 
-pub use state::{Day, Desk, OUT_ROOM, Out};
+pub use state::{Day, Desk, LONGEST, OUT_ROOM, Out};

@@ -10,7 +10,7 @@ use day::{MOST_ROWS, ROW_WIDTH};
 use figures::{MOST_PIVOTS, PIVOT_WIDTH, SCRATCH};
 
 // The length of the longest frame.
-pub(crate) const LONGEST: usize = 28;
+pub const LONGEST: usize = 28;
 
 // A piece has at most 4,096 bytes, and each may end a line that prints one of at most 84 bytes.
 pub const OUT_ROOM: usize = 344064;
@@ -36,10 +36,10 @@ pub struct Day {
 // `scratch` is lent to each ask, and `out` is what to print.
 #[derive(Drop)]
 pub struct Desk {
-    pub(crate) line: [u8; LONGEST],
-    pub(crate) list: [u32; MOST_ROWS * ROW_WIDTH],
-    pub(crate) pivots: [u32; MOST_PIVOTS * PIVOT_WIDTH],
-    pub(crate) scratch: [u32; SCRATCH],
+    pub line: [u8; LONGEST],
+    pub list: [u32; MOST_ROWS * ROW_WIDTH],
+    pub pivots: [u32; MOST_PIVOTS * PIVOT_WIDTH],
+    pub scratch: [u32; SCRATCH],
     pub out: Out,
     pub day: Day,
     pub ghost line_long: { length line ≡ longest },
