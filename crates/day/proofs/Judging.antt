@@ -15,6 +15,7 @@ use Rattle.rules.specs.Table.{row_fault, Check, Clear, Refuses, check_6, office_
 use Rattle.rules.proofs.Laws.Single.{least_single}
 use Rattle.rules.proofs.Laws.Good.{at_same}
 use Rattle.day.specs.declared.refusal.Refusal.{Refusal}
+use Rattle.day.specs.declared.refusal.Refusal.TheVariants as refusal
 use Rattle.day.specs.Rows.{soundb, rightb}
 use Rattle.day.specs.Verdicts.{Said, first_said, fault_says, office_number, office_says, told, Judges}
 use Rattle.day.proofs.Sounding.{not_both, sound_of, of_sound}
@@ -105,6 +106,14 @@ fault_judges n rs v e = judges_told (check_6 n rs ∷ []) _ v e (go (first_said 
         let e : h.0 ≡ x.place = omega (arith, h.1) in
         inl (t.1, record { holds = rw e at t.0; least = λ j f. omega (arith, h.2.first j row_fault (faulty_said f)) })
 
+-- and for each list there is a result that says it
+pub fault_told : (n : ℕ) (rs : List Row) → (v : Result (Unit {0}) Refusal) × (told v ≡ first_said (fault_says n) 0 0 rs)
+fault_told n rs = go (first_said (fault_says n) 0 0 rs) (first_said_finds (fault_says n) 0 0 rs)
+  where
+    go : (o : Option Said) → Finds (fault_says n) 0 0 rs o → (v : Result (Unit {0}) Refusal) × (told v ≡ o)
+    go none h = (Ok tt, refl)
+    go (some x) h = let e = (said_faulty h.2.here).1 in (Err (refusal.Row x.place), λ i. some (record { number = sym e i; place = x.place }))
+
 -- and by the office check's
 
 abbrev Off : (n : ℕ) (rs : List Row) (i : ℕ) → Type 0
@@ -162,3 +171,15 @@ office_judges n rs v says = judges_told (office_rows n rs) _ v says (go (first_s
               λ p w. no_fault (subst (Faulty n rs) (least_single w.first (least (noted_owner k o no_fault))) w.wrong),
               inl (k, record { first = least (noted_owner k o no_fault); wrong = o }),
             )
+
+-- and for each list there is a result that says it
+pub office_told : (n : ℕ) (rs : List Row) → (v : Result (Unit {0}) Refusal) × (told v ≡ first_said (office_says n) 0 0 rs)
+office_told n rs = go (first_said (office_says n) 0 0 rs) (first_said_finds (office_says n) 0 0 rs)
+  where
+    note : {i : ℕ} (x : Said) → Noted n rs i x.number → (v : Result (Unit {0}) Refusal) × (told v ≡ some x)
+    note x (noted_fault e f) = (Err (refusal.Row x.place), λ i. some (record { number = sym e i; place = x.place }))
+    note x (noted_owner e o f) = (Err (refusal.Owner x.place), λ i. some (record { number = sym e i; place = x.place }))
+
+    go : (o : Option Said) → Finds (office_says n) 0 0 rs o → (v : Result (Unit {0}) Refusal) × (told v ≡ o)
+    go none h = (Ok tt, refl)
+    go (some x) h = note x (said_noted h.2.here)

@@ -67,5 +67,5 @@ module _ (n A W : ℕ) (rows : List ℕ) (r : Ready n A W rows) (pivots : List �
   joined_right t bs e =
       pivot_diameter_searched rs A W n r.good r.in_order r.in_day (pivots_of pivots) sit bs
       (subst (λ (bs : List ℕ). TellsBounds n (bound_at bs) (LatestUnder (rows_day rs) A W (pivots_of pivots))) (sym e)
-      (bounds_under_told rs A W n r.good r.in_order r.in_day (pivots_of pivots) sit list own_out t))
+      (bounds_under_told rs A W n r.good r.in_order r.in_day (pivots_of pivots) sit list own_out.count (λ i p x a b. (own_out.each i p x a b).onward) t))
       (far_kept (legs_in legs) list n) joined_far

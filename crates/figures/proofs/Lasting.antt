@@ -15,12 +15,15 @@ use Rattle.passes.specs.Days.{rows_day}
 use Rattle.figures.specs.Own.{Own, own_table}
 use Rattle.figures.proofs.Judging.{passes}
 
-none_of_none : {A : Type 0} {P : A → Type 0} → Any P [] → ⊥
+pub none_of_none : {A : Type 0} {P : A → Type 0} → Any P [] → ⊥
 none_of_none a = elim a [ ]
 
+pub none_of_more : {A : Type 0} {P : A → Type 0} {x : A} {xs : List A} → (P x → ⊥) → (Any P xs → ⊥) → Any P (x ∷ xs) → ⊥
+none_of_more h k (any_here p) = h p
+none_of_more h k (any_later a) = k a
+
 pub none_of_one : {A : Type 0} {P : A → Type 0} {x : A} → (P x → ⊥) → Any P (x ∷ []) → ⊥
-none_of_one h (any_here p) = h p
-none_of_one h (any_later a) = none_of_none a
+none_of_one h = none_of_more h none_of_none
 
 -- no stop is named; no pivots come
 pub none_named : (n : ℕ) → Clear (check_7 n [] ∷ [])
@@ -44,10 +47,6 @@ only : {A : Type 0} {P : A → Type 0} {x : A} {xs : List A} → Any P (x ∷ []
 only (any_here p) = any_here p
 only (any_later a) = absurd (none_of_none a)
 
-either : {A : Type 0} {P : A → Type 0} {x : A} {xs : List A} → Any P (x ∷ xs) → (P x → ⊥) → (Any P xs → ⊥) → ⊥
-either (any_here p) h g = h p
-either (any_later a) h g = g a
-
 -- what the checks that are not given tell
 pub stop_named : {n stop : ℕ} → Clear (check_7 n (stop ∷ []) ∷ []) → stop < n
 stop_named {n} {stop} c = go (dec_lt stop n)
@@ -70,7 +69,7 @@ module _ (room : Room) (rooms : List Room) where
 
   module _ (wide : Clear (check_10 (room ∷ []) ∷ [])) where
     all_wide : (Any (λ room. room.has < room.wants) rooms → ⊥) → (place : ℕ) → (check_10 (room ∷ rooms)).given place → ⊥
-    all_wide h = passes (λ a. either a (λ l. wide.0 0 (refl, any_here l)) h)
+    all_wide h = passes (none_of_more (λ l. wide.0 0 (refl, any_here l)) h)
 
     pub room_then : (number place : ℕ) → Refuses (check_10 rooms ∷ []) number place → Refuses (check_10 (room ∷ rooms) ∷ []) number place
     room_then number place (inl h) = inl (h.0, (h.1.0, any_later h.1.1))

@@ -26,10 +26,10 @@ list_fits list whole few = go (ℕ_discrete (length list % row_width) 0)
     go (yes e) = omega (arith, few_rows list few)
     go (no e) = absurd (whole 0 (refl, e))
 
-own_few : (q : Ask) → ((place : ℕ) → (check_2 q.list).given place → ⊥) → length (asker's_rows q) ≤ most_rows
+pub own_few : (q : Ask) → ((place : ℕ) → (check_2 q.list).given place → ⊥) → length (asker's_rows q) ≤ most_rows
 own_few q few = omega (arith, own_shorter q.asker (rows_of q.list), length_rows q.list, few_rows q.list few)
 
-ready : (q : Ask) → Clear (first_checks q) → Ready q.n q.A q.W (numbers_of (asker's_rows q))
+pub ready : (q : Ask) → Clear (first_checks q) → Ready q.n q.A q.W (numbers_of (asker's_rows q))
 ready q c =
     record {
       good = rw (rows_of_numbers (asker's_rows q)) (faultless_good q.n (asker's_rows q) (none_if_no_least (Faulty q.n (asker's_rows q)) c.1.1.1.1.1.0));

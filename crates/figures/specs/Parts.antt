@@ -1,5 +1,5 @@
 -- The table in the parts in which the calls check it, and what the first part leaves.
-use Rattle.std.specs.Prelude.{ℕ, ◌+◌, ◌*◌, ◌/◌, ◌≤◌, ◌<◌, ◌≡◌, ◌⊎◌, List, [], ◌∷◌, ◌++◌, length, Result, Ok, Err}
+use Rattle.std.specs.Prelude.{ℕ, ◌+◌, ◌*◌, ◌/◌, ◌≤◌, ◌<◌, ◌≡◌, ◌⊎◌, List, [], ◌∷◌, ◌++◌, length, take, Result, Ok, Err}
 use Rattle.std.specs.Coded.{le_prop}
 use Rattle.rules.specs.Clock.{horizon}
 use Rattle.rules.specs.Day.{most_stops, most_rows, row_width, Row, rows_of, Ask, asker's_rows}
@@ -8,9 +8,10 @@ use Rattle.rules.specs.Struck.{numbers}
 use Rattle.rules.specs.Lent.{Stands, Copied}
 use Rattle.rules.specs.Table.{Check, Takes, check_1, check_2, check_3, check_4, check_5, check_6, check_7, check_8, check_9, check_10, check_12, Clear, Refuses}
 use Rattle.rules.specs.Faultless.{Good}
-use Rattle.passes.specs.Legs.{legs_of, made_legs, Laid}
-use Rattle.passes.specs.Links.{Orderly, good_prop}
+use Rattle.passes.specs.Legs.{legs_of, made_legs, alone, Laid}
+use Rattle.passes.specs.Links.{Orderly, AllLinked, good_prop}
 use Rattle.passes.specs.declared.legs.Leg.{Leg}
+use Rattle.passes.specs.declared.links.Links.{Links}
 use Rattle.passes.specs.Days.{rows_day}
 use Rattle.day.specs.Refusals.{number_of, place_of}
 use Rattle.day.specs.declared.refusal.Refusal.{Refusal}
@@ -75,6 +76,12 @@ pub record LegsLaid (n A W : ℕ) (rs : List Row) (legs : List Leg) : Type 0 whe
   pub is : legs ≡ made_legs (legs_of A W rs)
   pub laid : Laid n legs
   pub orderly : Orderly legs
+
+-- the legs of some rows stand in the front of a room and are linked, and the places that belong to no leg are kept
+pub record LegsLinked (A W : ℕ) (rs : List Row) (old : List Leg) (links : Links) (count : ℕ) (new : List Leg) (links' : Links) : Type 0 where
+  pub copied : Copied 1 alone (legs_of A W rs) old count new
+  pub within : count ≤ length new
+  pub linked : AllLinked (take count new) links links'
 
 -- each source u has its own stretch of the table, from place u × n
 abbrev pub Stretched : List Row → (n A W : ℕ) → (place number : ℕ) → Type 0

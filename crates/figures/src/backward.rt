@@ -25,7 +25,7 @@ impl Own<'_> {
         check_room(scratch, SCRATCH)?;
         let mut room = [Leg::BLANK; MOST_ROWS];
         let mut links = Links::new();
-        let linked = links.fill(self.legs(&mut room));
+        let linked = self.linked(&mut room, &mut links);
         linked.to_target(target, stops, out);
         wipe(scratch);
         Ok(())
@@ -42,7 +42,7 @@ impl Own<'_> {
         check_room(scratch, SCRATCH)?;
         let mut room = [Leg::BLANK; MOST_ROWS];
         let mut links = Links::new();
-        let linked = links.fill(self.legs(&mut room));
+        let linked = self.linked(&mut room, &mut links);
         let far = far_to(&linked, stop, self.n as usize);
         wipe(scratch);
         Ok(eccentricity_of(far))

@@ -28,13 +28,12 @@ impl Own<'_> {
     {
         let stops = self.n as usize;
         let mut room = [Leg::BLANK; MOST_ROWS];
-        let legs = self.legs(&mut room);
+        let mut links = Links::new();
+        let linked = self.linked(&mut room, &mut links);
         let mut numbers = [PivotNumbers::BLANK; MOST_PIVOTS];
-        let numbers = self.pivot_numbers(legs, pivots, &mut numbers);
+        let numbers = self.pivot_numbers(linked.legs, pivots, &mut numbers);
         let mut entered = [0u32; 256];
         pivot_bounds(numbers, stops, &mut entered);
-        let mut links = Links::new();
-        let linked = links.fill(legs);
         visit_all(&entered, stops, |v| far_joined(&linked, numbers, v, stops))
     }
 

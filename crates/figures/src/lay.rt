@@ -6,13 +6,13 @@ ghost use Rattle.rules.specs.Pivots.{pivots_of};
 ghost use Rattle.passes.specs.Legs.{legs_in, Laid};
 ghost use Rattle.passes.specs.Pivots.{onward_pivot, into_pivot};
 ghost use Rattle.search.specs.Pivots.{numbers_over, PivotsLaid, LaidOut};
-ghost use Rattle.figures.specs.Parts.{LegsLaid};
+ghost use Rattle.figures.specs.Parts.{LegsLaid, LegsLinked};
 ghost use Rattle.figures.specs.Pivots.{pivot_width, pivot_of, AllSit};
 
 use crate::own::Own;
 use crate::pivots::{PIVOT_WIDTH, Pivot, pivot_at};
 use clock::Reading;
-use passes::{Leg, forward_pass, make_legs, reach_back};
+use passes::{Leg, LinkedLegs, Links, forward_pass, make_legs, reach_back};
 use search::PivotNumbers;
 
 // One pivot's numbers.
@@ -35,6 +35,29 @@ impl Own<'_> {
     {
         let m = make_legs(self.rows, self.a, self.w, room);
         &room[..m]
+    }
+
+    // Lays the legs of own rows in the front of `room` and links them, and answers their number; a place that belongs to no
+    // leg is kept.
+    fn lay_legs(self, room: &mut [Leg], links: &mut Links) -> usize
+        requires { most_rows ≤ length room.old }
+        ensures { LegsLinked self.entry.a.0 self.entry.w.0 (rows_of self.entry.rows.now) room.old links.old result room.new links.new }
+    {
+        let count = make_legs(self.rows, self.a, self.w, room);
+        links.fill(&room[..count]);
+        count
+    }
+
+    // The legs of own rows with their links.
+    pub(crate) fn linked<'r>(self, room: &'r mut [Leg], links: &'r mut Links) -> LinkedLegs<'r>
+        requires { most_rows ≤ length room.old }
+        ensures { LegsLaid self.entry.n self.entry.a.0 self.entry.w.0 (rows_of self.entry.rows.now) result.legs.now }
+    {
+        let count = self.lay_legs(room, links);
+        LinkedLegs {
+            legs: &room[..count],
+            links,
+        }
     }
 
     // The numbers of all pivots, in the front of `list`.

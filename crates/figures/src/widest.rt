@@ -24,11 +24,10 @@ impl Own<'_> {
     {
         let stops = self.n as usize;
         let mut room = [Leg::BLANK; MOST_ROWS];
-        let legs = self.legs(&mut room);
-        let mut entered = [0u32; 256];
-        bounds(legs, stops, &mut entered);
         let mut links = Links::new();
-        let linked = links.fill(legs);
+        let linked = self.linked(&mut room, &mut links);
+        let mut entered = [0u32; 256];
+        bounds(linked.legs, stops, &mut entered);
         visit_all(&entered, stops, |v| far_to(&linked, v, stops))
     }
 

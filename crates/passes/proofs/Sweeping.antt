@@ -18,16 +18,23 @@ use Rattle.passes.proofs.Laws.Swept.{swept_at}
 use Rattle.passes.proofs.Linking.{stored}
 
 -- what the links lead to is one of the legs, or none
+module _ (list : List declared.Leg) (next follow : List ℕ) (threads : Threaded list 0 next follow) (k : ℕ) (one : 1 ≤ k) (within : k ≤ length list) where
+  pub next_within : get_or next k 0 ≤ length list
+  next_within = rw (threads.nexts k one within) (first_leaves list k (leg_no list k).from 0).most
+
+  pub follow_within : get_or follow k 0 ≤ length list
+  follow_within = rw (threads.follows k one within) (first_leaves list k (leg_no list k).to (arrival (leg_no list k))).most
+
+-- so it has a place in an array over the numbers of legs
 module _ (list : List declared.Leg) (head next follow : List ℕ) (linked : Linked list 0 head next follow) (fit : Orderly list) where
   pub head_small : (u : ℕ) → u < most_stops → get_or head u 0 < link_places
   head_small u h = omega (arith, fit.few, head_within list head next follow 0 u linked h)
 
   pub next_small : (k : ℕ) → 1 ≤ k → k ≤ length list → get_or next k 0 < link_places
-  next_small k one within = rw (linked.threads.nexts k one within) (omega (arith, fit.few, (first_leaves list k (leg_no list k).from 0).most))
+  next_small k one within = omega (arith, fit.few, next_within list next follow linked.threads k one within)
 
   pub follow_small : (k : ℕ) → 1 ≤ k → k ≤ length list → get_or follow k 0 < link_places
-  follow_small k one within =
-      rw (linked.threads.follows k one within) (omega (arith, fit.few, (first_leaves list k (leg_no list k).to (arrival (leg_no list k))).most))
+  follow_small k one within = omega (arith, fit.few, follow_within list next follow linked.threads k one within)
 
 module _ (list : List declared.Leg) (fit : Orderly list) (next follow : List ℕ) (threads : Threaded list 0 next follow) (v k : ℕ) (one : 1 ≤ k) (within : k ≤ length list) where
   -- the earliest arrival by leg k or a later one of its from-stop, by the recurrence

@@ -82,6 +82,11 @@ impl Jumps {
 }
 
 impl Links {
+    ghost use Rattle.std.specs.Prelude.{⊤};
+    ghost use Rattle.std.specs.Borrow.{sem, follows_so};
+    ghost use mathlib.Core.Option.{none};
+    ghost use Rattle.passes.specs.contracts.links.Links.{the_row};
+
     // No leg is linked.
     pub fn new() -> Links
         ensures { result ≡ no_links }
@@ -119,6 +124,7 @@ impl Links {
     // The legs with their links filled in; a place that belongs to no leg is kept.
     pub fn fill<'a>(&'a mut self, legs: &'a [Leg]) -> LinkedLegs<'a>
         requires { Orderly legs.now }
+        ensures* lent { sem 𝓛 (follows_so the_row the_row self.entry.ghost_name none (λ _ _. ⊤) (λ links. AllLinked legs.now self.old links)) }
         ensures legs { result.legs.now ≡ legs.now }
         ensures links { AllLinked legs.now self.old result.links.now }
     {

@@ -143,3 +143,8 @@ BytesTaken (b ∷ bs) d r d' = PieceTaken (b ∷ bs) 0 d r d'
 abbrev pub ReadTaken : Option (Bor (List ℕ)) → Desk → ControlFlow ℕ (Unit {0}) → Desk → Type 0
 ReadTaken None d r d' = (r ≡ Break 0) × (d' ≡ d)
 ReadTaken (Some bytes) d r d' = BytesTaken bytes.now d r d'
+
+-- where the run ends, the day is as it was
+abbrev pub DayKept : Day → ControlFlow ℕ (Unit {0}) → Day → Type 0
+DayKept day (Continue u) day' = Unit {0}
+DayKept day (Break end) day' = day' ≡ day

@@ -2,7 +2,7 @@
 ghost use Rattle.std.specs.Prelude.{◌≡◌, ◌≤◌, IfSome, [], ◌∷◌, length};
 ghost use Rattle.printing.specs.Lines.{frame_words};
 ghost use Rattle.printing.specs.Parts.{PutsLine};
-ghost use Rattle.taking.specs.Room.{most_bytes, Ahead, Spare, LineTaken, PieceTaken, EndTaken, ReadTaken};
+ghost use Rattle.taking.specs.Room.{most_bytes, Ahead, Spare, LineTaken, PieceTaken, EndTaken, BytesTaken, ReadTaken, DayKept};
 
 use crate::state::{Desk, LONGEST};
 use printing::frame_line;
@@ -84,21 +84,37 @@ impl Desk {
         }
     }
 
-    // What one read led to: `read` is the bytes that it gave, none of them where the input ended, and nothing where
-    // it failed. Then the run ends, and a line that it cut is not taken. What a read prints stands at the front of `out`.
-    #[tactic(auto, using(std::proofs::lemmas::Bool::Decides::nat_tests, crate::specs::Laws::Reads::read_piece))]
-    pub fn take_read(&mut self, read: Option<&[u8]>) -> ControlFlow<usize>
-        requires few { IfSome read (λ b. length b.now ≤ most_bytes) }
+    // The bytes of a read, none of them where the input ended. What they print stands at the front of `out`.
+    #[tactic(auto, using(std::proofs::lemmas::Bool::Decides::nat_tests))]
+    fn take_given(&mut self, bytes: &[u8]) -> ControlFlow<usize>
+        requires few { length bytes.now ≤ most_bytes }
         requires ahead { Ahead most_bytes self.old.day }
-        ensures { ReadTaken read.entry self.old result self.new }
+        ensures { BytesTaken bytes.now self.old result self.new }
     {
-        let Some(bytes) = read else {
-            return ControlFlow::Break(0);
-        };
         self.day.made = 0;
         if bytes.is_empty() {
             return ControlFlow::Break(self.take_last());
         }
         self.take_bytes(bytes)
+    }
+
+    // What one read led to: `read` is the bytes that it gave, none of them where the input ended, and nothing where
+    // it failed. Then the run ends, and a line that it cut is not taken. What a read prints stands at the front of `out`.
+    // Where the run ends, the day is as it was.
+    pub fn take_read(&mut self, read: Option<&[u8]>) -> ControlFlow<usize>
+        requires few { IfSome read (λ b. length b.now ≤ most_bytes) }
+        requires ahead { Ahead most_bytes self.old.day }
+        ensures read { ReadTaken read.entry self.old result self.new }
+        ensures day { DayKept self.old.day result self.new.day }
+    {
+        let Some(bytes) = read else {
+            return ControlFlow::Break(0);
+        };
+        let day = self.day;
+        let end = self.take_given(bytes);
+        if end.is_break() {
+            self.day = day;
+        }
+        end
     }
 }

@@ -19,7 +19,7 @@ use Rattle.passes.specs.Legs.{alone, legs_of}
 use Rattle.passes.specs.Links.{AllLinked}
 use Rattle.passes.proofs.Laws.Single.{links_single}
 use Rattle.figures.specs.Promises.{Filled}
-use Rattle.figures.specs.Parts.{list_checks, plain_checks, own_check, first_checks, Prepares, LegsLaid}
+use Rattle.figures.specs.Parts.{list_checks, plain_checks, own_check, first_checks, Prepares, LegsLaid, LegsLinked}
 
 pub list_check_unique : (list : List ℕ) (n : ℕ) (v v' : Filled) → Judges (list_checks list n) v → Judges (list_checks list n) v' → v ≡ v'
 list_check_unique list n = judges_single (list_checks list n) (zero_place, (zero_place, (zero_place, tt)))
@@ -65,3 +65,7 @@ legs_linked_unique A W rs room old count count' l l' new new' c a d b =
     let e = copied_single c d in
     let same : take count l ≡ take count' l' = cc (e.0, e.1) in
     (e.0, (e.1, links_single (subst (λ (ls : List Leg). AllLinked ls old new) same a) b))
+
+pub lay_legs_unique : (A W : ℕ) (rs : List Row) (room : List Leg) (old : Links) (count count' : ℕ) (l l' : List Leg) (new new' : Links)
+    → LegsLinked A W rs room old count l new → LegsLinked A W rs room old count' l' new' → (count ≡ count') × ((l ≡ l') × (new ≡ new'))
+lay_legs_unique A W rs room old count count' l l' new new' a b = legs_linked_unique A W rs room old count count' l l' new new' a.copied a.linked b.copied b.linked

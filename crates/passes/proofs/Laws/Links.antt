@@ -1,12 +1,14 @@
 -- The first leg past a number: where it lies, and how a chain leads to it.
 use Rattle.std.specs.Prelude.{ℕ, zero, suc, ◌+◌, ◌-◌, ◌≤◌, ◌<◌, ◌≡◌, refl, Bool, true, false, cond, ◌&&◌, eqb, leb, get_or}
-use Rattle.std.proofs.Common.{ap, sym, ◌∙◌, arith, eqb-true, ne_eqb, leb-true, leb-false, length, drop_of_length-le}
+use Rattle.std.proofs.Common.{add-one, ap, sym, ◌∙◌, arith, eqb-true, ne_eqb, leb-true, leb-false, length, drop_of_length-le}
 use mathlib.Core.List.{List, [], ◌∷◌, Memᴰ}
 use Rattle.std.proofs.Math.Decide.{dec_lt}
 use Rattle.std.proofs.lemmas.Bool.{eqb-false}
 use Rattle.std.proofs.Math.Seq.{drop-cons}
+use Rattle.rules.specs.Words.{things_from}
 use Rattle.rules.specs.Day.{Row, Sound, most_stops}
 use Rattle.rules.proofs.Laws.Good.{good_sound}
+use Rattle.rules.proofs.Laws.Written.{things_more, things_end}
 use Rattle.rules.specs.Faultless.{Good, good_none, good_more}
 use Rattle.passes.specs.Legs.{leg_at, legs_in, no_leg}
 use Rattle.passes.specs.declared.legs.Leg as declared
@@ -24,6 +26,18 @@ legs_past_more list k h = ap legs_in (drop-cons list k no_leg h)
 
 pub legs_past_end : (list : List declared.Leg) (k : ℕ) → length list ≤ k → legs_past list k ≡ []
 legs_past_end list k h = ap legs_in (drop_of_length-le list h)
+
+-- they are the legs at their places, from place k on
+legs_past_by : (list : List declared.Leg) (c k : ℕ) → length list ≤ c + k → legs_past list k ≡ things_from (leg_at list) (length list - k) k
+legs_past_by list zero k e = legs_past_end list k (omega arith) ∙ sym (things_end (leg_at list) (length list) k (omega arith))
+legs_past_by list (suc c) k e = go (dec_lt k (length list)) (legs_past_by list c (suc k) (omega arith))
+  where
+    go : Dec (k < length list) → legs_past list (suc k) ≡ things_from (leg_at list) (length list - suc k) (suc k) → legs_past list k ≡ things_from (leg_at list) (length list - k) k
+    go (no d) rest = legs_past_end list k (omega arith) ∙ sym (things_end (leg_at list) (length list) k (omega arith))
+    go (yes d) rest = rw (things_more (leg_at list) (length list) k d, add-one k) (legs_past_more list k d ∙ ap (λ (rs : List Row). leg_at list k ∷ rs) rest)
+
+pub legs_past_things : (list : List declared.Leg) (k : ℕ) → legs_past list k ≡ things_from (leg_at list) (length list - k) k
+legs_past_things list k = legs_past_by list (length list) k (omega arith)
 
 pub legs_past_all : (list : List declared.Leg) → legs_past list 0 ≡ legs_in list
 legs_past_all list = refl

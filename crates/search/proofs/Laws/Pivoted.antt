@@ -119,7 +119,9 @@ module _ (rs : List Row) (A W n : ℕ) (g : Good n rs) (aw : A ≤ W) (wh : W �
           pick true = refl
           pick false = ap some (omega (arith, s.not_before))
 
-  module _ (list : List PivotNumbers) (laid : LaidOut n pivots (onward_pivot n A (legs_of A W rs)) (into_pivot n A (legs_of A W rs)) list) where
+  -- a list that has the onward numbers of each pivot; those into it do not count here
+  module _ (list : List PivotNumbers) (count : length list ≡ length pivots)
+      (each : (i : ℕ) (p : Pivot) (x : PivotNumbers) → At pivots i p → At list i x → (v : ℕ) → v < n → get_or x.onward v 0 ≡ get_or (onward_pivot n A (legs_of A W rs) p) v 0) where
     -- the bounds list tells the bounds, whatever stands behind them
     pub bounds_under_told : (t : List ℕ) → TellsBounds n (bound_at (bounds_under list n ++ t)) (LatestUnder (rows_day rs) A W pivots)
     unfolding bound_at pivot_bound_of
@@ -127,12 +129,13 @@ module _ (rs : List Row) (A W n : ℕ) (g : Good n rs) (aw : A ≤ W) (wh : W �
         tells_same n (pivot_bound_of rs A W n pivots) (bound_at (bounds_under list n ++ t)) same (pivot_bounds_told rs A W n g aw wh pivots sit)
       where
         one : (v : ℕ) → v < n → (i : ℕ) (p : Pivot) (x : PivotNumbers) → At pivots i p → At list i x → if_bound (get_or x.onward v 0) ≡ under_of rs A W n v p
-        one v l i p x a b = rw ((laid.each i p x a b).onward v l) (under_number p (sit p (at_member a)) v l)
+        one v l i p x a b = rw (each i p x a b v l) (under_number p (sit p (at_member a)) v l)
 
         same : (v : ℕ) → v < n → bound_at (bounds_under list n ++ t) v ≡ pivot_bound_of rs A W n pivots v
         same v l =
-            ap if_bound (things_before (bound_under list) n t v l) ∙ greatest_told v (under_of rs A W n v) pivots list laid.count (one v l)
+            ap if_bound (things_before (bound_under list) n t v l) ∙ greatest_told v (under_of rs A W n v) pivots list count (one v l)
 
+  module _ (list : List PivotNumbers) (laid : LaidOut n pivots (onward_pivot n A (legs_of A W rs)) (into_pivot n A (legs_of A W rs)) list) where
     module _ (u v : ℕ) (un : u < n) (vn : v < n) (ne : u ≢ v) where
       -- the pivot reaches v exactly where its number is not nowhere
       onward_reaches : (p : Pivot) → Sits n A W p → get_or (onward_pivot n A (legs_of A W rs) p) v 0 ≢ nowhere → Onward (rows_day rs) W v p

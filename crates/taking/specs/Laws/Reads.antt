@@ -40,27 +40,37 @@ begun_single day day' b b' =
     }
 
 -- the input ended
+pub given_ended : (bytes : List ℕ) (d d₀ d' : Desk) (end : ℕ) → EndTaken d₀ end d'.out → length bytes ≡ 0 → stand_of d₀ ≡ stand_of d → d₀.out ≡ d.out → BytesTaken bytes d (Break end) d'
+given_ended [] d d₀ d' end h none stand same_out = (end, refl, anew_end d d₀ stand same_out end d'.out h)
+given_ended (b ∷ bs) d d₀ d' end h none stand same_out = absurd (omega arith)
+
 pub read_ended : (read : Option (Bor (List ℕ))) (bytes : Bor (List ℕ)) (d d₀ d' : Desk) (end : ℕ) → EndTaken d₀ end d'.out → read ≡ Some bytes → length bytes.now ≡ 0 → stand_of d₀ ≡ stand_of d → d₀.out ≡ d.out
     → ReadTaken read d (Break end) d'
-read_ended read bytes d d₀ d' end h is none stand same_out = rw is (go bytes.now none)
-  where
-    go : (bs : List ℕ) → length bs ≡ 0 → BytesTaken bs d (Break end) d'
-    go [] e = (end, refl, anew_end d d₀ stand same_out end d'.out h)
-    go (b ∷ bs) e = absurd (omega arith)
+read_ended read bytes d d₀ d' end h is none stand same_out = rw is (given_ended bytes.now d d₀ d' end h none stand same_out)
 
--- so many bytes came
+-- some bytes came, and they are a piece
+pub given_bytes : (bytes : List ℕ) (d : Desk) (r : ControlFlow ℕ (Unit {0})) (d' : Desk) → PieceTaken bytes 0 d r d' → 1 ≤ length bytes → BytesTaken bytes d r d'
+given_bytes [] d r d' h more = absurd (omega arith)
+given_bytes (b ∷ bs) d r d' h more = h
+
+pub read_bytes : (read : Option (Bor (List ℕ))) (bytes : Bor (List ℕ)) (d : Desk) (r : ControlFlow ℕ (Unit {0})) (d' : Desk) → PieceTaken bytes.now 0 d r d' → read ≡ Some bytes → 1 ≤ length bytes.now
+    → ReadTaken read d r d'
+read_bytes read bytes d r d' h is more = rw is (given_bytes bytes.now d r d' h more)
+
+-- and so where they were taken from a desk that stood the same, with nothing made
+pub given_piece : (bytes : List ℕ) (d d₀ : Desk) (r : ControlFlow ℕ (Unit {0})) (d' : Desk) → PieceTaken bytes d₀.day.made d₀ r d' → 1 ≤ length bytes → d₀.day.made ≡ 0
+    → stand_of d₀ ≡ stand_of d → d₀.out ≡ d.out → d₀.day.rows ≡ d.day.rows → d₀.day.pivots ≡ d.day.pivots → d₀.list ≡ d.list → d₀.pivots ≡ d.pivots → BytesTaken bytes d r d'
+given_piece bytes d d₀ r d' h more made stand same_out rows pivots list same_pivots = given_bytes bytes d r d' (piece r (subst (λ (k : ℕ). PieceTaken bytes k d₀ r d') made h)) more
+  where
+    piece : (r : ControlFlow ℕ (Unit {0})) → PieceTaken bytes 0 d₀ r d' → PieceTaken bytes 0 d r d'
+    piece (Continue u) h = anew_went bytes 0 d d₀ stand same_out d' rows pivots list same_pivots h
+    piece (Break end) h = anew_halts bytes 0 d d₀ stand same_out end d'.out h
+
 pub read_piece : (read : Option (Bor (List ℕ))) (bytes : Bor (List ℕ)) (d d₀ : Desk) (r : ControlFlow ℕ (Unit {0})) (d' : Desk) → PieceTaken bytes.now d₀.day.made d₀ r d' → read ≡ Some bytes → 1 ≤ length bytes.now
     → d₀.day.made ≡ 0 → stand_of d₀ ≡ stand_of d → d₀.out ≡ d.out → d₀.day.rows ≡ d.day.rows → d₀.day.pivots ≡ d.day.pivots → d₀.list ≡ d.list → d₀.pivots ≡ d.pivots
     → ReadTaken read d r d'
-read_piece read bytes d d₀ r d' h is more made stand same_out rows pivots list same_pivots = rw is (some bytes.now more (piece r (subst (λ (k : ℕ). PieceTaken bytes.now k d₀ r d') made h)))
-  where
-    piece : (r : ControlFlow ℕ (Unit {0})) → PieceTaken bytes.now 0 d₀ r d' → PieceTaken bytes.now 0 d r d'
-    piece (Continue u) h = anew_went bytes.now 0 d d₀ stand same_out d' rows pivots list same_pivots h
-    piece (Break end) h = anew_halts bytes.now 0 d d₀ stand same_out end d'.out h
-
-    some : (bs : List ℕ) → 1 ≤ length bs → PieceTaken bs 0 d r d' → BytesTaken bs d r d'
-    some [] e h = absurd (omega arith)
-    some (b ∷ bs) e h = h
+read_piece read bytes d d₀ r d' h is more made stand same_out rows pivots list same_pivots =
+    rw is (given_piece bytes.now d d₀ r d' h more made stand same_out rows pivots list same_pivots)
 
 module _ (d d' : Desk) where
   -- the run goes on only after a piece

@@ -4,7 +4,7 @@ use Rattle.passes.specs.Legs.{legs_in}
 use Rattle.passes.specs.Forward.{init, passed}
 use Rattle.passes.proofs.Laws.Links.{legs_past_end}
 use Rattle.passes.proofs.Laws.Passed.{passed_append, init_long}
-use Rattle.passes.proofs.Passing.{passed_next, laid_inside}
+use Rattle.passes.proofs.Passing.{passed_past, laid_inside}
 use Rattle.passes.proofs.forward.forward_pass.Goals as goal
 
 pub loop-leg-preserved : goal.loop-leg-preserved
@@ -13,7 +13,7 @@ loop-leg-preserved c =
     let laid = c.requires.1.1 in
     let on = c.loop-leg-test.true in
     ap (passed _) c.relax.ensures
-    ∙ (sym (passed_next c.args.legs.now loop.leg-index loop.out on (laid.rises loop.leg-index on)) ∙ loop.invariant)
+    ∙ (sym (passed_past c.args.legs.now loop.leg-index loop.out on (laid.rises loop.leg-index on)) ∙ loop.invariant)
 
 pub returns : goal.returns
 unfolding passed init

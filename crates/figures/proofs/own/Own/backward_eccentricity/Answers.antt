@@ -24,8 +24,8 @@ returns c =
     let own = c.args.self in
     let o = owned own in
     let t = takes (c.args.stop ∷ []) [] (room c.args.scratch.now scratch_places ∷ []) in
-    let right = sweep_far o.n o.A o.W own.rows.now own.ready c.legs.result.now c.legs.ensures c.args.stop (stop_named c.in_ok-check_stop.ensures) in
-    let far = rw (sym (rw c.fill.ensures.legs at c.far_to-far.ensures)) at right in (
+    let right = sweep_far o.n o.A o.W own.rows.now own.ready c.linked-linked.result.legs.now c.linked-linked.ensures c.args.stop (stop_named c.in_ok-check_stop.ensures) in
+    let far = rw (sym c.far_to-far.ensures) at right in (
       all_clear o t c.in_ok-check_stop.ensures (no_pivots o.n o.A o.W) c.in_ok-check_room.ensures,
       (rw c.eccentricity_of.ensures (far_right _ c.far_to-far.result (λ z d p. far.nobody z p.0 d p.1) far.greatest), c.wipe.ensures),
     )

@@ -41,5 +41,5 @@ returns c =
     let scratch = room c.args.scratch.now scratch_places in
     let t = takes (c.args.target ∷ []) [] (out ∷ scratch ∷ []) in (
       all_clear o t c.in_ok-check_stop.ensures (no_pivots o.n o.A o.W) (rooms_clear out (scratch ∷ []) c.in_ok-check_room.ensures c.in_ok-check_room-2.ensures),
-      (sweep_fills o.n o.A o.W own.rows.now own.ready c.legs.result.now c.legs.ensures c.args.target c.args.out.now _ (room_wide c.in_ok-check_room.ensures) (rw c.fill.ensures.legs at c.to_target.ensures), c.wipe.ensures),
+      (sweep_fills o.n o.A o.W own.rows.now own.ready c.linked-linked.result.legs.now c.linked-linked.ensures c.args.target c.args.out.now _ (room_wide c.in_ok-check_room.ensures) c.to_target.ensures, c.wipe.ensures),
     )

@@ -9,10 +9,10 @@ use Rattle.figures.proofs.own.Own.search_all.Goals as goal
 pub bounds-requires : goal.bounds-requires
 bounds-requires c =
     let o = c.args.self in
-    (omega (arith, o.ready.few_stops), legs_are_good o.n o.a.0 o.w.0 o.rows.now o.ready c.legs-legs.result.now c.legs-legs.ensures)
+    (omega (arith, o.ready.few_stops), legs_are_good o.n o.a.0 o.w.0 o.rows.now o.ready c.linked-linked.result.legs.now c.linked-linked.ensures)
 
 pub returns : goal.returns
 returns c =
     let o = c.args.self in
-    let e = c.visit_all.ensures (far_in (legs_in c.fill.result.legs.now) o.n) (search rules) in
-    rw (e, c.fill.ensures.legs) (search_right o.n o.a.0 o.w.0 o.rows.now o.ready c.legs-legs.result.now c.legs-legs.ensures _ c.bounds.new.out c.bounds.ensures)
+    let e = c.visit_all.ensures (far_in (legs_in c.linked-linked.result.legs.now) o.n) (search rules) in
+    rw e (search_right o.n o.a.0 o.w.0 o.rows.now o.ready c.linked-linked.result.legs.now c.linked-linked.ensures _ c.bounds.new.out c.bounds.ensures)

@@ -9,6 +9,6 @@ pub returns : goal.returns
 returns c =
     let o = c.args.self in
     let list = c.pivot_numbers-numbers.result.now in
-    let e = c.visit_all.ensures (far_kept (legs_in c.fill.result.legs.now) list o.n) (search rules) in
-    rw (e, c.fill.ensures.legs)
-    (joined_right o.n o.a.0 o.w.0 o.rows.now o.ready c.args.pivots.now c.requires.1 c.legs-legs.result.now c.legs-legs.ensures list c.pivot_numbers-numbers.ensures _ c.pivot_bounds.new.out c.pivot_bounds.ensures)
+    let e = c.visit_all.ensures (far_kept (legs_in c.linked-linked.result.legs.now) list o.n) (search rules) in
+    rw e
+    (joined_right o.n o.a.0 o.w.0 o.rows.now o.ready c.args.pivots.now c.requires.1 c.linked-linked.result.legs.now c.linked-linked.ensures list c.pivot_numbers-numbers.ensures _ c.pivot_bounds.new.out c.pivot_bounds.ensures)

@@ -10,7 +10,7 @@ use Rattle.passes.specs.Backward.{distances_to}
 use Rattle.passes.proofs.Sweeping.{head_small}
 use Rattle.passes.proofs.Laws.Backward.{distances_at, length_distances}
 use Rattle.passes.proofs.Laws.Swept.{swept_head}
-use Rattle.passes.proofs.Filling.{fill_one, fill_end}
+use Rattle.passes.proofs.Filling.{fill_one, fill_whole}
 use Rattle.passes.proofs.linked.LinkedLegs.to_target.Goals as goal
 
 pub bounds-best-self : goal.bounds-best-self
@@ -39,4 +39,4 @@ returns c =
     let loop = c.loop-u in
     let wide = length-take-le args.n args.out.now c.requires.n_in_bounds in
     let all : loop.u ≡ args.n = omega (arith, wide, c.loop-u-test.false, c.loop-u.auto.u-end) in
-    ap (λ xs. xs ++ drop args.n args.out.now) (fill_end (distances_to args.target ls args.n 0) (take args.n args.out.now) args.n loop.distance-items (length_distances args.target ls args.n 0) wide (rw all at loop.invariant))
+    ap (λ xs. xs ++ drop args.n args.out.now) (fill_whole (distances_to args.target ls args.n 0) (take args.n args.out.now) args.n loop.distance-items (length_distances args.target ls args.n 0) wide (rw all at loop.invariant))
