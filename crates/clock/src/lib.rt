@@ -24,11 +24,16 @@ impl Reading {
         (reading <= Reading::HORIZON).then_some(reading)
     }
 
-    // A length on from this reading, or none past the horizon: past it is every sum that does not fit.
+    // A length on from this reading, or none past the horizon; the sum is exact.
     pub fn plus(self, length: Length) -> Option<Reading>
         ensures { result ≡ made_of (self.0 + length.0) }
     {
-        Reading::of(self.0.saturating_add(length.0))
+        let sum = u64::from(self.0) + u64::from(length.0);
+        if sum <= u64::from(Reading::HORIZON.0) {
+            Some(Reading(sum as u32))
+        } else {
+            None
+        }
     }
 
     // This reading less an earlier one, or none where the other is the later.

@@ -59,10 +59,10 @@ impl Row {
             && self.start.plus(self.travel).is_some()
     }
 
-    // Whether the row is sound, and starts at last or later.
+    // Whether the row is sound, and starts at last or later. In this order its tests are joined without a jump for each.
     pub fn is_right(self, n: u32, last: Reading) -> bool
         ensures { result ≡ rightb n last.0 (row_of self) }
     {
-        self.start >= last && self.is_sound(n)
+        self.is_sound(n) && self.start >= last
     }
 }
